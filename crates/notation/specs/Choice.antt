@@ -1,0 +1,13 @@
+-- Choices by tests.
+use mathlib.Core.Bool.{Bool, true, false, _||_}
+use mathlib.Core.List.{List, [], _∷_}
+
+-- if the test passes the first, else the second
+unfoldable pub choose : {A : Type 0} → Bool → A → A → A
+choose true x y = x
+choose false x y = y
+
+-- one of the tests passes
+unfoldable pub any : List Bool → Bool
+any [] = false
+any (t ∷ ts) = t || any ts

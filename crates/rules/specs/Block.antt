@@ -1,0 +1,124 @@
+-- 01, "The boot block". `b` is the block's bytes.
+use mathlib.Core.Bool.{Bool}
+use mathlib.Core.List.{List}
+use Prim.Native.Nat.{ℕ, _+_, _-_, _*_, _/_}
+use Rattle.notation.specs.Lists.{sum}
+use Rattle.notation.specs.Words.{word, bit}
+
+-- THE HEADER: eight words
+unfoldable pub format : List ℕ → ℕ
+format b = word b 0
+
+unfoldable pub lengthField : List ℕ → ℕ
+lengthField b = word b 4
+
+-- p
+unfoldable pub processCount : List ℕ → ℕ
+processCount b = word b 8
+
+unfoldable pub processOffset : List ℕ → ℕ
+processOffset b = word b 12
+
+-- s
+unfoldable pub sectionCount : List ℕ → ℕ
+sectionCount b = word b 16
+
+unfoldable pub sectionOffset : List ℕ → ℕ
+sectionOffset b = word b 20
+
+-- r
+unfoldable pub regionCount : List ℕ → ℕ
+regionCount b = word b 24
+
+unfoldable pub regionOffset : List ℕ → ℕ
+regionOffset b = word b 28
+
+-- RECORDS LIE TIGHT: process records from byte 32 on, section records after them, region records after those
+unfoldable pub sectionsAt : List ℕ → ℕ
+sectionsAt b = 32 + 16 * processCount b
+
+unfoldable pub regionsAt : List ℕ → ℕ
+regionsAt b = sectionsAt b + 16 * sectionCount b
+
+unfoldable pub tightLength : List ℕ → ℕ
+tightLength b = regionsAt b + 8 * regionCount b
+
+-- A PROCESS RECORD: four words. Record i is process i + 1, so process q is record q - 1; process 1 is the kernel
+unfoldable pub processAt : ℕ → ℕ
+processAt q = 32 + 16 * (q - 1)
+
+unfoldable pub entryPoint : List ℕ → ℕ → ℕ
+entryPoint b q = word b (processAt q)
+
+unfoldable pub firstSection : List ℕ → ℕ → ℕ
+firstSection b q = word b (processAt q + 4)
+
+unfoldable pub sectionsOf : List ℕ → ℕ → ℕ
+sectionsOf b q = word b (processAt q + 8)
+
+unfoldable pub kind : List ℕ → ℕ → ℕ
+kind b q = word b (processAt q + 12)
+
+-- the record of section j, counted from 0, of process q
+unfoldable pub sectionRecord : List ℕ → ℕ → ℕ → ℕ
+sectionRecord b q j = firstSection b q + j
+
+-- A SECTION RECORD: four words
+unfoldable pub sectionAt : List ℕ → ℕ → ℕ
+sectionAt b n = sectionsAt b + 16 * n
+
+unfoldable pub address : List ℕ → ℕ → ℕ
+address b n = word b (sectionAt b n)
+
+unfoldable pub size : List ℕ → ℕ → ℕ
+size b n = word b (sectionAt b n + 4)
+
+unfoldable pub flashOffset : List ℕ → ℕ → ℕ
+flashOffset b n = word b (sectionAt b n + 8)
+
+unfoldable pub flags : List ℕ → ℕ → ℕ
+flags b n = word b (sectionAt b n + 12)
+
+-- 01's NOCOPY: the section has no bytes in flash, only zeros
+unfoldable pub noCopy : List ℕ → ℕ → Bool
+noCopy b n = bit (flags b n) 1
+
+unfoldable pub writable : List ℕ → ℕ → Bool
+writable b n = bit (flags b n) 2
+
+unfoldable pub executable : List ℕ → ℕ → Bool
+executable b n = bit (flags b n) 4
+
+-- where the section ends: the address after its last byte
+unfoldable pub sectionEnd : List ℕ → ℕ → ℕ
+sectionEnd b n = address b n + size b n
+
+-- its first and last virtual page, and how many it has
+unfoldable pub firstPage : List ℕ → ℕ → ℕ
+firstPage b n = address b n / 4096
+
+unfoldable pub lastPage : List ℕ → ℕ → ℕ
+lastPage b n = (sectionEnd b n - 1) / 4096
+
+unfoldable pub pageCount : List ℕ → ℕ → ℕ
+pageCount b n = lastPage b n + 1 - firstPage b n
+
+-- A REGION RECORD: two words
+unfoldable pub regionAt : List ℕ → ℕ → ℕ
+regionAt b i = regionsAt b + 8 * i
+
+unfoldable pub regionStart : List ℕ → ℕ → ℕ
+regionStart b i = word b (regionAt b i)
+
+unfoldable pub regionPages : List ℕ → ℕ → ℕ
+regionPages b i = word b (regionAt b i + 4)
+
+unfoldable pub regionEnd : List ℕ → ℕ → ℕ
+regionEnd b i = regionStart b i + 4096 * regionPages b i
+
+-- the I/O pages of the first n regions, and of all
+unfoldable pub ioPagesOf : List ℕ → ℕ → ℕ
+ioPagesOf b n = sum n (regionPages b)
+
+unfoldable pub ioPages : List ℕ → ℕ
+ioPages b = ioPagesOf b (regionCount b)

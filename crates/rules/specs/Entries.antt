@@ -1,0 +1,52 @@
+-- 01, "Entries": the page table entry of Sv32.
+--
+--    31            10 9   8   7   6   5   4   3   2   1   0
+--   +----------------+-----+---+---+---+---+---+---+---+---+
+--   |      PPN       | RSW | D | A | G | U | X | W | R | V |
+--   +----------------+-----+---+---+---+---+---+---+---+---+
+--
+--   V      1  valid
+--   R      2  read
+--   W      4  write
+--   X      8  execute
+--   U     16  user
+--   G     32  global      \
+--   A     64  accessed     | in a valid entry these change nothing, and the loader leaves them clear
+--   D    128  dirty        |
+--   RSW  256, 512         /
+--   PPN       the physical page number
+--
+-- R, W and X all clear in a valid entry: a pointer to the next level's table. Valid clear and the whole word 22: reserved.
+use mathlib.Core.Bool.{Bool, true, false}
+use Prim.Native.Nat.{ℕ, _+_, _*_, _/_, _%_}
+use lib.Dec.{eqb}
+use Rattle.notation.specs.Choice.{choose}
+use Rattle.notation.specs.Words.{bit}
+use Rattle.types.specs.declared.Rights.{Rights}
+use Rattle.types.specs.declared.Entry.{Entry}
+use Rattle.types.specs.declared.Entry.the-variants.{Absent, Reserved, Pointer, Page}
+
+-- WRITING AN ENTRY: 1,024 times the physical page number P plus flags
+unfoldable pub absentEntry : ℕ
+absentEntry = 0
+
+unfoldable pub reservedEntry : ℕ
+reservedEntry = 22
+
+-- with flag 1 only
+unfoldable pub pointerEntry : ℕ → ℕ
+pointerEntry P = 1024 * P + 1
+
+-- valid and read, with write, execute and user as given
+unfoldable pub pageEntry : ℕ → Bool → Bool → Bool → ℕ
+pageEntry P write execute user = 1024 * P + (1 + 2 + choose write 4 0 + choose execute 8 0 + choose user 16 0)
+
+-- READING AN ENTRY
+unfoldable pub rightsIn : ℕ → Rights
+rightsIn e = record { read = bit e 2; write = bit e 4; execute = bit e 8; user = bit e 16 }
+
+-- valid is bit 0; read, write and execute are bits 1 to 3
+unfoldable pub decode : ℕ → Entry
+decode e =
+    choose (eqb (e % 2) 0) (choose (eqb e 22) Reserved Absent)
+    (choose (eqb (e / 2 % 8) 0) (Pointer (record { 0 = e / 1024 })) (Page (rightsIn e) (record { 0 = e / 1024 })))

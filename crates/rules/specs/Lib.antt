@@ -1,0 +1,12 @@
+pub mod Block
+pub mod Space
+pub mod Order
+pub mod Refusals
+pub mod Entries
+pub mod Tables
+pub mod Contents
+pub mod Load
+pub mod Reader
+pub mod Sees
+pub mod Compare
+pub mod Marked

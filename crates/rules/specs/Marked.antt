@@ -1,0 +1,83 @@
+-- 01, "The small board, whole": the examples marked P, as one table under one claim.
+use mathlib.Core.Path.{_≡_, refl}
+use mathlib.Core.Bool.{Bool, true, false, _&&_}
+use mathlib.Core.List.{List, [], _∷_}
+use Prim.Native.Nat.{ℕ, _*_}
+use lib.Dec.{eqb}
+use Rattle.notation.specs.Choice.{choose, any}
+use Rattle.notation.specs.Lists.{tab, gather, sum, exists, findLast}
+use Rattle.notation.specs.Words.{word, byteOf}
+use Rattle.types.specs.declared.Answer.{Answer}
+use Rattle.rules.specs.Block.{format, lengthField, processCount, processOffset, sectionCount, sectionOffset, regionCount, regionOffset, sectionsAt, regionsAt, tightLength}
+use Rattle.rules.specs.Block.{processAt, entryPoint, firstSection, sectionsOf, kind, sectionRecord, sectionAt, address, size, flashOffset, flags, noCopy, writable, executable, sectionEnd}
+use Rattle.rules.specs.Block.{firstPage, lastPage, pageCount, regionAt, regionStart, regionPages, regionEnd, ioPagesOf, ioPages}
+use Rattle.rules.specs.Order.{sectionUses, inRootSlot, hasLeaf, tableUses, order, pagesFor, trackerPages, uses, pagesNeeded, freePages}
+use Rattle.rules.specs.Refusals.{ramUnfit, blockTooShort, formatUnknown, outside, countsOutOfBounds, layoutNotTight, sectionsBefore, processUnfit, sectionUnfit, hasSection, ownerOf}
+use Rattle.rules.specs.Refusals.{rangeFirst, rangeLast, sectionMisplaced, sectionPastFlash, entryPointOutside, shareAddress, regionUnfit, ramTooSmall}
+use Rattle.rules.specs.Refusals.{refused, accepted, firstRecord, firstRefusal, sectionRefusal, checks, verdict}
+use Rattle.rules.specs.Load.{answerTo, answer}
+
+-- the bytes of words
+unfoldable pub bytes : List ℕ → List ℕ
+bytes [] = []
+bytes (w ∷ ws) = byteOf w 0 ∷ byteOf w 1 ∷ byteOf w 2 ∷ byteOf w 3 ∷ bytes ws
+
+-- the small board's block, with the entry point of process 2, the address of B and the start of the region as given
+unfoldable pub board : ℕ → ℕ → ℕ → List ℕ
+board entry B region = bytes
+    (1 ∷ 120 ∷ 2 ∷ 32 ∷ 3 ∷ 64 ∷ 1 ∷ 112
+    ∷ 0xFFC0_0010 ∷ 0 ∷ 1 ∷ 0
+    ∷ entry ∷ 1 ∷ 2 ∷ 0
+    ∷ 0xFFC0_0000 ∷ 256 ∷ 0 ∷ 4
+    ∷ 0x0001_0020 ∷ 64 ∷ 256 ∷ 4
+    ∷ B ∷ 4096 ∷ 0 ∷ 3
+    ∷ region ∷ 2
+    ∷ [])
+
+unfoldable pub smallBoard : List ℕ
+smallBoard = board 0x0001_0020 0x0002_0000 0xF000_0000
+
+-- an example: the block, the bytes of flash, the pages of RAM from 0x40000000 on, and the answer's number, place and free pages
+pub record Example : Type 0 where
+  pub block : List ℕ
+  pub flash : ℕ
+  pub pages : ℕ
+  pub number : ℕ
+  pub place : ℕ
+  pub free : ℕ
+
+unfoldable pub given : Example → Answer
+given x = answer (x .block) (x .flash) 0x4000_0000 (4096 * x .pages)
+
+unfoldable pub exampleHolds : Example → Bool
+exampleHolds x = let a = given x in eqb (a .number) (x .number) && (eqb (a .place) (x .place) && eqb (a .free) (x .free))
+
+unfoldable pub allHold : List Example → Bool
+allHold [] = true
+allHold (x ∷ xs) = exampleHolds x && allHold xs
+
+unfoldable pub p1 : Example
+p1 = record { block = smallBoard; flash = 320; pages = 16; number = 0; place = 0; free = 1 }
+
+-- P1 to P12, the last with its two halves
+unfoldable pub marked : List Example
+marked =
+    p1
+    ∷ record { block = smallBoard; flash = 320; pages = 15; number = 0; place = 0; free = 0 }
+    ∷ record { block = smallBoard; flash = 320; pages = 14; number = 12; place = 0; free = 0 }
+    ∷ record { block = []; flash = 320; pages = 16; number = 2; place = 0; free = 0 }
+    ∷ record { block = board 0x0001_005F 0x0002_0000 0xF000_0000; flash = 320; pages = 16; number = 0; place = 0; free = 1 }
+    ∷ record { block = board 0x0001_0060 0x0002_0000 0xF000_0000; flash = 320; pages = 16; number = 10; place = 1; free = 0 }
+    ∷ record { block = smallBoard; flash = 319; pages = 16; number = 9; place = 1; free = 0 }
+    ∷ record { block = board 0x0001_0020 0x0001_0060 0xF000_0000; flash = 320; pages = 16; number = 8; place = 2; free = 0 }
+    ∷ record { block = board 0x0001_0020 0x0001_1000 0xF000_0000; flash = 320; pages = 16; number = 0; place = 0; free = 1 }
+    ∷ record { block = board 0x0001_0020 0x7FFF_B000 0xF000_0000; flash = 320; pages = 16; number = 0; place = 0; free = 1 }
+    ∷ record { block = board 0x0001_0020 0x7FFF_B001 0xF000_0000; flash = 320; pages = 16; number = 8; place = 2; free = 0 }
+    ∷ record { block = board 0x0001_0020 0x0002_0000 0x4000_F000; flash = 320; pages = 16; number = 11; place = 0; free = 0 }
+    ∷ record { block = board 0x0001_0020 0x0002_0000 0x4001_0000; flash = 320; pages = 16; number = 0; place = 0; free = 1 }
+    ∷ []
+
+-- all examples hold, and P1 takes 15 pages, one of them for the tracker
+pub P1-to-P12 : (allHold marked && (eqb (given p1 .taken) 15 && eqb (given p1 .tracker) 1)) ≡ true
+unfolding allHold exampleHolds given p1 marked smallBoard board bytes answer answerTo verdict checks firstRefusal firstRecord refused accepted sectionRefusal ramUnfit blockTooShort formatUnknown outside countsOutOfBounds layoutNotTight sectionsBefore processUnfit sectionUnfit hasSection ownerOf rangeFirst rangeLast sectionMisplaced sectionPastFlash entryPointOutside shareAddress regionUnfit ramTooSmall sectionUses inRootSlot hasLeaf tableUses order pagesFor trackerPages uses pagesNeeded freePages format lengthField processCount processOffset sectionCount sectionOffset regionCount regionOffset sectionsAt regionsAt tightLength processAt entryPoint firstSection sectionsOf kind sectionRecord sectionAt address size flashOffset flags noCopy writable executable sectionEnd firstPage lastPage pageCount regionAt regionStart regionPages regionEnd ioPagesOf ioPages word byteOf choose any tab gather sum exists findLast
+P1-to-P12 = refl

@@ -1,0 +1,184 @@
+-- 01, "When it says no": each refusal's cause, and the first in 01's order. Ends are whole-number sums; nothing wraps.
+use mathlib.Core.Bool.{Bool, true, false, not, _&&_}
+use mathlib.Core.List.{List, [], _∷_}
+use mathlib.Core.Option.{Option, none, some}
+use Prim.Native.Nat.{ℕ, zero, suc, _+_, _-_, _/_, _%_, min, max}
+use lib.ListN.{length}
+use lib.Dec.{leb, ltb, eqb}
+use Rattle.notation.specs.Choice.{choose, any}
+use Rattle.notation.specs.Lists.{sum, findLast, exists}
+use Rattle.types.specs.declared.Verdict.{Verdict}
+use Rattle.rules.specs.Block.{format, lengthField, processCount, processOffset, sectionCount, sectionOffset, regionCount, regionOffset, sectionsAt, regionsAt, tightLength}
+use Rattle.rules.specs.Block.{entryPoint, firstSection, sectionsOf, kind, sectionRecord, address, size, flashOffset, flags, noCopy, writable, executable, sectionEnd, firstPage, lastPage}
+use Rattle.rules.specs.Block.{regionStart, regionPages, regionEnd, ioPagesOf}
+use Rattle.rules.specs.Order.{pagesNeeded}
+
+-- 1: RAM of `len` bytes from `start` on is not whole pages, is over 4,096 pages, does not start at a multiple of 4,096, or ends past 2^32
+unfoldable pub ramUnfit : ℕ → ℕ → Bool
+ramUnfit start len = any
+    (not (eqb (len % 4096) 0)
+    ∷ ltb 4096 (len / 4096)
+    ∷ not (eqb (start % 4096) 0)
+    ∷ ltb 0x1_0000_0000 (start + len)
+    ∷ [])
+
+-- 2
+unfoldable pub blockTooShort : List ℕ → Bool
+blockTooShort b = ltb (length b) 32
+
+-- 3
+unfoldable pub formatUnknown : List ℕ → Bool
+formatUnknown b = not (eqb (format b) 1)
+
+-- n is outside the bounds lo to hi
+unfoldable pub outside : ℕ → ℕ → ℕ → Bool
+outside lo hi n = any (ltb n lo ∷ ltb hi n ∷ [])
+
+-- 4
+unfoldable pub countsOutOfBounds : List ℕ → Bool
+countsOutOfBounds b = any
+    (outside 1 16 (processCount b)
+    ∷ outside 1 64 (sectionCount b)
+    ∷ outside 0 32 (regionCount b)
+    ∷ [])
+
+-- 5: an offset is not the tight one, or the length field or the true length is not the tight length
+unfoldable pub layoutNotTight : List ℕ → Bool
+layoutNotTight b = any
+    (not (eqb (processOffset b) 32)
+    ∷ not (eqb (sectionOffset b) (sectionsAt b))
+    ∷ not (eqb (regionOffset b) (regionsAt b))
+    ∷ not (eqb (lengthField b) (tightLength b))
+    ∷ not (eqb (length b) (tightLength b))
+    ∷ [])
+
+-- the sum of the section counts of the first n process records
+unfoldable pub sectionsBefore : List ℕ → ℕ → ℕ
+sectionsBefore b n = sum n (λ i. sectionsOf b (i + 1))
+
+-- 6, for process record i: its kind is not 0, its section count is 0, its first section is not the sum of the counts before it, its
+-- sum passes s, or it is the last record and its sum is not s
+unfoldable pub processUnfit : List ℕ → ℕ → Bool
+processUnfit b i = any
+    (not (eqb (kind b (i + 1)) 0)
+    ∷ eqb (sectionsOf b (i + 1)) 0
+    ∷ not (eqb (firstSection b (i + 1)) (sectionsBefore b i))
+    ∷ ltb (sectionCount b) (sectionsBefore b (i + 1))
+    ∷ (eqb (i + 1) (processCount b) && not (eqb (sectionsBefore b (i + 1)) (sectionCount b)))
+    ∷ [])
+
+-- 7, for section record n: its size is 0, a flag above 4 is set, writable and executable are both set, or NOCOPY has a flash offset
+-- other than 0
+unfoldable pub sectionUnfit : List ℕ → ℕ → Bool
+sectionUnfit b n = any
+    (eqb (size b n) 0
+    ∷ ltb 7 (flags b n)
+    ∷ (writable b n && executable b n)
+    ∷ (noCopy b n && not (eqb (flashOffset b n) 0))
+    ∷ [])
+
+-- section record n is one of the sections of process record i
+unfoldable pub hasSection : List ℕ → ℕ → ℕ → Bool
+hasSection b n i = leb (firstSection b (i + 1)) n && ltb n (firstSection b (i + 1) + sectionsOf b (i + 1))
+
+-- the process that owns section record n: there is one for each n below s, once 6 is not given
+unfoldable pub ownerOf : List ℕ → ℕ → ℕ
+ownerOf b n = elim (findLast (hasSection b n) (processCount b)) [ none ↦ 0 | some i ↦ i + 1 ]
+
+-- the range for the sections of process q: its first and its last address
+unfoldable pub rangeFirst : ℕ → ℕ
+rangeFirst q = choose (eqb q 1) 0xFFC0_0000 0x0000_1000
+
+unfoldable pub rangeLast : ℕ → ℕ
+rangeLast q = choose (eqb q 1) 0xFFEF_FFFF 0x7FFF_BFFF
+
+-- 8, for section record n: it is not wholly in its owner's range, or its first page is not above the last page of the same process's
+-- previous section
+unfoldable pub sectionMisplaced : List ℕ → ℕ → Bool
+sectionMisplaced b n = any
+    (ltb (address b n) (rangeFirst (ownerOf b n))
+    ∷ ltb (rangeLast (ownerOf b n) + 1) (sectionEnd b n)
+    ∷ (not (eqb n (firstSection b (ownerOf b n))) && leb (firstPage b n) (lastPage b (n - 1)))
+    ∷ [])
+
+-- 9, for section record n and an image of `flash` bytes: without NOCOPY, it runs past the end of flash
+unfoldable pub sectionPastFlash : List ℕ → ℕ → ℕ → Bool
+sectionPastFlash b flash n = not (noCopy b n) && ltb flash (flashOffset b n + size b n)
+
+-- 10, for process record i: its entry point is in none of its executable sections
+unfoldable pub entryPointOutside : List ℕ → ℕ → Bool
+entryPointOutside b i = not (exists (λ j.
+    let n = sectionRecord b (i + 1) j in
+    executable b n && (leb (address b n) (entryPoint b (i + 1)) && ltb (entryPoint b (i + 1)) (sectionEnd b n)))
+    (sectionsOf b (i + 1)))
+
+-- two areas, each from its start up to and without its end, share an address
+unfoldable pub shareAddress : ℕ → ℕ → ℕ → ℕ → Bool
+shareAddress start end start′ end′ = ltb (max start start′) (min end end′)
+
+-- 11, for region record i: its start is not a multiple of 4,096, its pages are 0, it ends past 2^32, starts below the end of the
+-- region before, shares an address with RAM, or brings the I/O total over 4,096
+unfoldable pub regionUnfit : List ℕ → ℕ → ℕ → ℕ → Bool
+regionUnfit b start len i = any
+    (not (eqb (regionStart b i % 4096) 0)
+    ∷ eqb (regionPages b i) 0
+    ∷ ltb 0x1_0000_0000 (regionEnd b i)
+    ∷ (ltb 0 i && ltb (regionStart b i) (regionEnd b (i - 1)))
+    ∷ shareAddress start (start + len) (regionStart b i) (regionEnd b i)
+    ∷ ltb 4096 (ioPagesOf b (i + 1))
+    ∷ [])
+
+-- 12: the pages needed exceed the pages of RAM
+unfoldable pub ramTooSmall : List ℕ → ℕ → Bool
+ramTooSmall b len = ltb (len / 4096) (pagesNeeded b (len / 4096))
+
+-- THE FIRST REFUSAL
+-- one step of the checks
+pub data Check : Type 0 where
+  -- `whole n c`: refusal n, place 0, where c
+  whole : ℕ → Bool → Check
+  -- `records n f`: records 0 to n - 1 in order; f i is the number of the refusal at record i, or 0
+  records : ℕ → (ℕ → ℕ) → Check
+
+unfoldable pub refused : ℕ → ℕ → Verdict
+refused n place = record { number = n; place = place }
+
+-- number 0, place 0
+unfoldable pub accepted : Verdict
+accepted = refused 0 0
+
+-- the first refusal among records k, k + 1, .. k + n - 1, else what follows
+unfoldable pub firstRecord : (ℕ → ℕ) → ℕ → ℕ → Verdict → Verdict
+firstRecord f k zero rest = rest
+firstRecord f k (suc n) rest =
+    let later = firstRecord f (suc k) n rest in
+    choose (eqb (f k) 0) later (refused (f k) k)
+
+unfoldable pub firstRefusal : List Check → Verdict
+firstRefusal [] = accepted
+firstRefusal (whole n c ∷ cs) = let later = firstRefusal cs in choose c (refused n 0) later
+firstRefusal (records n f ∷ cs) = let later = firstRefusal cs in firstRecord f 0 n later
+
+-- 7, 8 and 9 together for one section
+unfoldable pub sectionRefusal : List ℕ → ℕ → ℕ → ℕ
+sectionRefusal b flash n =
+    choose (sectionUnfit b n) 7 (choose (sectionMisplaced b n) 8 (choose (sectionPastFlash b flash n) 9 0))
+
+-- all checks, in 01's order: block `b`, an image of `flash` bytes, RAM of `len` bytes from `start` on
+unfoldable pub checks : List ℕ → ℕ → ℕ → ℕ → List Check
+checks b flash start len =
+    whole 1 (ramUnfit start len)
+    ∷ whole 2 (blockTooShort b)
+    ∷ whole 3 (formatUnknown b)
+    ∷ whole 4 (countsOutOfBounds b)
+    ∷ whole 5 (layoutNotTight b)
+    ∷ records (processCount b) (λ i. choose (processUnfit b i) 6 0)
+    ∷ records (sectionCount b) (sectionRefusal b flash)
+    ∷ records (processCount b) (λ i. choose (entryPointOutside b i) 10 0)
+    ∷ records (regionCount b) (λ i. choose (regionUnfit b start len i) 11 0)
+    ∷ whole 12 (ramTooSmall b len)
+    ∷ []
+
+-- the first in this order wins
+unfoldable pub verdict : List ℕ → ℕ → ℕ → ℕ → Verdict
+verdict b flash start len = firstRefusal (checks b flash start len)

@@ -1,0 +1,24 @@
+-- 01, "Entries": the entries of every root and leaf table. `phys` gives the physical page number of a use.
+use mathlib.Core.Bool.{Bool}
+use mathlib.Core.List.{List}
+use Prim.Native.Nat.{ℕ, _+_, _*_}
+use lib.Dec.{eqb}
+use Rattle.notation.specs.Choice.{choose}
+use Rattle.rules.specs.Space.{Mapping, unmapped, stack, maps, mappingAt}
+use Rattle.rules.specs.Order.{Use, holds, leafTable, hasLeaf}
+use Rattle.rules.specs.Entries.{absentEntry, reservedEntry, pointerEntry, pageEntry}
+
+-- entry m of the root of process q: entry 1,023 of every root points to the kernel's leaf table
+unfoldable pub rootEntry : List ℕ → (Use → ℕ) → ℕ → ℕ → ℕ
+rootEntry b phys q m =
+    choose (eqb m 1023) (pointerEntry (phys (leafTable 1 1023)))
+    (choose (hasLeaf b q m) (pointerEntry (phys (leafTable q m))) absentEntry)
+
+unfoldable pub entryFor : (Use → ℕ) → Mapping → ℕ
+entryFor phys unmapped = absentEntry
+entryFor phys stack = reservedEntry
+entryFor phys (maps d write execute user) = pageEntry (phys (holds d)) write execute user
+
+-- entry i of the leaf table of process q for root slot m, where the tracker has T pages
+unfoldable pub leafEntry : List ℕ → ℕ → (Use → ℕ) → ℕ → ℕ → ℕ → ℕ
+leafEntry b T phys q m i = entryFor phys (mappingAt b T q (1024 * m + i))

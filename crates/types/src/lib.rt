@@ -1,0 +1,52 @@
+// The types that the definitions, the promises and the code share.
+
+// A RAM page number: RAM page k starts at RAM's start + 4,096 k.
+pub struct RamPage(pub u32);
+
+// A virtual page number (VPN): a virtual address / 4,096.
+pub struct VirtPage(pub u32);
+
+// A physical page number (PPN): a physical address / 4,096.
+pub struct PhysPage(pub u32);
+
+// The rights of a page: what may be done with its bytes, and whether a user program may do it.
+pub struct Rights {
+    pub read: bool,
+    pub write: bool,
+    pub execute: bool,
+    pub user: bool,
+}
+
+// A page table entry as it reads. The walk answers by the same cases, and never by Pointer.
+pub enum Entry {
+    Absent,
+    // The stack reservation of a user process.
+    Reserved,
+    // To a leaf table.
+    Pointer(PhysPage),
+    Page(Rights, PhysPage),
+}
+
+// What a process sees at an address: nothing, its stack reservation, or a page's rights and one byte.
+pub enum View {
+    Absent,
+    Reserved,
+    Page(Rights, u8),
+    // A page whose byte lies outside RAM: never after a boot.
+    Outside(Rights),
+}
+
+// Number 0 and place 0: it boots. Else the number of the refusal, and its place: the record it was found at, counted from 0.
+pub struct Verdict {
+    pub number: u32,
+    pub place: u32,
+}
+
+// The full answer of the loader. In a refusal the three counts are 0.
+pub struct Answer {
+    pub number: u32,
+    pub place: u32,
+    pub taken: u32,
+    pub free: u32,
+    pub tracker: u32,
+}
