@@ -1,0 +1,5 @@
+pub mod Choice
+pub mod Numbers
+pub mod Lists
+pub mod Counts
+pub mod Words

@@ -1,0 +1,29 @@
+-- Laws of numbers that `omega` does not find by itself.
+use mathlib.Core.Path.{_≡_, refl, sym, ap, _∙_}
+use Prim.Native.Nat.{ℕ, _+_, _*_, _/_, _%_, _<_}
+use native.Mathlib.Nat.{div-div-eq-div-mul, mod-add-div, mod-eq-of-lt}
+use native.Mathlib.Omega.{arith}
+
+-- a word of four bytes, put together again
+pub four-bytes : (n : ℕ)
+    → n < 0x1_0000_0000
+    → n % 256 + 256 * (n / 256 % 256) + 65536 * (n / 65536 % 256) + 16777216 * (n / 16777216 % 256) ≡ n
+four-bytes n h =
+    let d₀ : n % 256 + 256 * (n / 256) ≡ n = mod-add-div n 256 in
+    let d₁ : n / 256 % 256 + 256 * (n / 65536) ≡ n / 256 = rw (div-div-eq-div-mul n 256 256) at (mod-add-div (n / 256) 256) in
+    let d₂ : n / 65536 % 256 + 256 * (n / 16777216) ≡ n / 65536 = rw (div-div-eq-div-mul n 65536 256) at (mod-add-div (n / 65536) 256) in
+    let d₃ : n / 16777216 % 256 ≡ n / 16777216 = mod-eq-of-lt (omega arith) in
+    digits
+    (n % 256)
+    (n / 256 % 256)
+    (n / 65536 % 256)
+    (n / 16777216 % 256)
+    (n / 256)
+    (n / 65536)
+    n
+    d₀
+    d₁
+    (ap (λ (c : ℕ). n / 65536 % 256 + 256 * c) d₃ ∙ d₂)
+  where
+    digits : (x y z c a b n : ℕ) → x + 256 * a ≡ n → y + 256 * b ≡ a → z + 256 * c ≡ b → x + 256 * y + 65536 * z + 16777216 * c ≡ n
+    digits x y z c a b n p q s = omega arith

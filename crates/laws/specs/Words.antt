@@ -1,0 +1,25 @@
+-- Laws of words.
+use mathlib.Core.Path.{_≡_, refl}
+use mathlib.Core.Bool.{Bool, true, false}
+use mathlib.Core.List.{List}
+use Prim.Native.Nat.{ℕ, _+_, _*_, _/_, _%_, _^_, _<_}
+use native.Mathlib.Nat.{div-one, add-zero}
+use native.Mathlib.Omega.{arith}
+use lib.ListN.{getD}
+use lib.Dec.{eqb}
+use borrow.Author.Tests.{eq-eqb, ne-eqb}
+use Rattle.notation.specs.Words.{word, byteOf, bit}
+use Rattle.laws.specs.Numbers.{four-bytes}
+use Rattle.laws.specs.Counts.{one, one-yes, one-no}
+
+-- the word whose four bytes stand at x is read there
+pub word-of-bytes : (l : List ℕ) (x n : ℕ) → n < 0x1_0000_0000 → ((c : ℕ) → c < 4 → getD l (x + c) 0 ≡ byteOf n c) → word l x ≡ n
+unfolding word byteOf
+word-of-bytes l x n b h =
+    let z : getD l x 0 ≡ n % 256 = rw (add-zero, div-one) at (h 0 (omega arith)) in
+    rw (z, h 1 (omega arith), h 2 (omega arith), h 3 (omega arith)) (four-bytes n b)
+
+-- a bit, by what the digit is
+pub bit-is : (n k : ℕ) (c : Bool) → n / k % 2 ≡ one c → bit n k ≡ c
+bit-is n k true h = eq-eqb (n / k % 2) 1 (omega (arith, one-yes {c = true} refl))
+bit-is n k false h = ne-eqb (n / k % 2) 1 (λ z. omega (arith, one-no {c = false} refl))
