@@ -1,1 +1,11 @@
 pub mod Refusal
+pub mod Demand1
+pub mod Boot
+pub mod Placement
+pub mod Mappings
+pub mod Entries
+pub mod Walk
+pub mod Loaded
+pub mod Counting
+pub mod Demand2
+pub mod Demand3

@@ -1,5 +1,4 @@
--- DEMAND 1: the loader ends with success or with one refusal of 01, exactly when 01 says. A refusal returns number, place and zero
--- counts and leaves RAM untouched.
+-- The first refusal of a list of checks, and what is known of the others.
 use mathlib.Core.Path.{_≡_, refl, sym, ap, _∙_}
 use mathlib.Core.Logic.{_≢_, _⊎_, inl, inr, _↔_}
 use mathlib.Core.List.{List, [], _∷_}
@@ -9,16 +8,13 @@ use Prim.Native.Nat.{ℕ, zero, suc, _+_, _≤_, _<_}
 use native.Mathlib.Nat.{not-suc-le-zero, le-of-suc-le-suc}
 use native.Mathlib.Decide.{ℕ-discrete}
 use native.Mathlib.Omega.{arith}
-use lib.ListN.{length}
 use lib.Dec.{eqb}
-use borrow.Author.Tests.{eq-eqb, ne-eqb, eqb-true, eqb-false}
+use borrow.Author.Tests.{eqb-true, eqb-false}
 use Rattle.notation.specs.Choice.{choose}
 use Rattle.notation.specs.Lists.{lookup}
 use Rattle.types.specs.declared.Verdict.{Verdict}
-use Rattle.types.specs.declared.Answer.{Answer}
 use Rattle.rules.specs.Refusals.{Check, whole, records, refused, accepted, firstRecord, firstRefusal, sectionRefusal, checks, verdict}
-use Rattle.rules.specs.Load.{boots, answerTo, answer, ramAfter}
-use Rattle.laws.specs.Choice.{by-test, by-choose, choose-yes, choose-no}
+use Rattle.laws.specs.Choice.{by-choose}
 use Rattle.laws.specs.Lists.{Every, every-at}
 
 -- nothing is wrong at a check
@@ -45,7 +41,7 @@ Numbered (whole n c) = (1 ≤ n) × (n ≤ 12)
 Numbered (records n f) = (i : ℕ) → f i ≤ 12
 
 -- the verdict on a list of checks: all pass, or one is the first that does not
-abbrev Decided : List Check → Verdict → Type 0
+abbrev pub Decided : List Check → Verdict → Type 0
 Decided cs v = (Every Passes cs × (v ≡ accepted)) ⊎ ((1 ≤ v .number) × (v .number ≤ 12) × FirstCause cs (v .number) (v .place))
 
 -- the first record with a refusal, or none has one
@@ -96,7 +92,7 @@ pass {c} {cs} p (inr d) =
     same-check : (c c′ : Check) → some c ≡ some c′ → Passes c → Passes c′
     same-check c c′ e p = let q : c ≡ c′ = cc in rw q at p
 
-decided : (cs : List Check) → Every Numbered cs → Decided cs (firstRefusal cs)
+pub decided : (cs : List Check) → Every Numbered cs → Decided cs (firstRefusal cs)
 unfolding firstRefusal lookup refused
 decided [] ns = inl (tt, refl)
 decided (whole n c ∷ cs) ns =
@@ -137,7 +133,7 @@ unfolding sectionRefusal
 section-number b flash n =
     by-choose (λ m. m ≤ 12) _ 7 _ (λ _. omega arith) (λ _. by-choose (λ m. m ≤ 12) _ 8 _ (λ _. omega arith) (λ _. one-number _ 9 (omega arith)))
 
-numbered : (b : List ℕ) (flash start len : ℕ) → Every Numbered (checks b flash start len)
+pub numbered : (b : List ℕ) (flash start len : ℕ) → Every Numbered (checks b flash start len)
 unfolding checks
 numbered b flash start len = (
   omega arith,
@@ -169,11 +165,11 @@ numbered b flash start len = (
 )
 
 -- a check does not pass and refuse at once
-not-both : (c : Check) (n place : ℕ) → 1 ≤ n → Passes c → Refuses c n place → ⊥
+pub not-both : (c : Check) (n place : ℕ) → 1 ≤ n → Passes c → Refuses c n place → ⊥
 not-both (whole m c) n place h p r = let z : _≡_ {A = ℕ} 0 1 = cc in omega arith
 not-both (records m f) n place h p r = omega (arith, p place (r .0), r .1)
 
-all-pass : (cs : List Check) (v : Verdict) → Decided cs v → (v .number ≡ 0) ↔ Every Passes cs
+pub all-pass : (cs : List Check) (v : Verdict) → Decided cs v → (v .number ≡ 0) ↔ Every Passes cs
 unfolding accepted refused
 all-pass cs v (inl d) = ((λ _. d .0), (λ _. rw (d .1)))
 all-pass cs v (inr d) = (
@@ -181,35 +177,8 @@ all-pass cs v (inr d) = (
   (λ ps. absurd (not-both (d .2 .check) (v .number) (v .place) (d .0) (every-at Passes cs (d .2 .step) ps (d .2 .there)) (d .2 .cause))),
 )
 
-first-cause : (cs : List Check) (v : Verdict) → Decided cs v → v .number ≢ 0
+pub first-cause : (cs : List Check) (v : Verdict) → Decided cs v → v .number ≢ 0
     → (1 ≤ v .number) × (v .number ≤ 12) × FirstCause cs (v .number) (v .place)
 unfolding accepted refused
 first-cause cs v (inl d) h = absurd (h (rw (d .1)))
 first-cause cs v (inr d) h = d
-
--- THE THEOREMS
-module _ (b : List ℕ) (flash start len : ℕ) where
-  -- number 0 exactly where no cause holds
-  pub boots-where-no-cause-holds : (verdict b flash start len .number ≡ 0) ↔ Every Passes (checks b flash start len)
-  unfolding verdict
-  boots-where-no-cause-holds = all-pass _ _ (decided (checks b flash start len) (numbered b flash start len))
-
-  -- else the number is one of 1 to 12, its cause holds at its place, and no earlier cause in 01's order does
-  pub refusal-is-first-cause : verdict b flash start len .number ≢ 0
-      → (1 ≤ verdict b flash start len .number) × (verdict b flash start len .number ≤ 12)
-      × FirstCause (checks b flash start len) (verdict b flash start len .number) (verdict b flash start len .place)
-  unfolding verdict
-  refusal-is-first-cause = first-cause _ _ (decided (checks b flash start len) (numbered b flash start len))
-
-  -- a refusal's answer has its number, its place and three zero counts
-  pub refusal-answer : verdict b flash start len .number ≢ 0
-      → answer b flash start len
-      ≡ record { number = verdict b flash start len .number; place = verdict b flash start len .place; taken = 0; free = 0; tracker = 0 }
-  unfolding answer answerTo
-  refusal-answer h = choose-no _ _ (ne-eqb _ 0 h)
-
--- RAM after a refusal is RAM before
-pub refusal-leaves-ram : (b flash : List ℕ) (start : ℕ) (ram : List ℕ) → verdict b (length flash) start (length ram) .number ≢ 0
-    → ramAfter b flash start ram ≡ ram
-unfolding ramAfter boots
-refusal-leaves-ram b flash start ram h = choose-no _ _ (ne-eqb _ 0 h)

@@ -53,6 +53,11 @@ pub or-right : (a c : Bool) → (a || c) ≡ false → c ≡ false
 or-right true c e = cc
 or-right false c e = e
 
+pub choose-or : (a c : Bool) → choose a true c ≡ false → (a ≡ false) × (c ≡ false)
+unfolding choose
+choose-or true c e = (e, cc)
+choose-or false c e = (refl, e)
+
 -- test i of a list of tests none of which passes
 pub any-none : (ts : List Bool) → any ts ≡ false → (i : ℕ) → getD ts i false ≡ false
 unfolding any

@@ -91,6 +91,10 @@ module _ {A : Type 0} where
       (λ e. omega (arith, one-yes e))
       (λ e. omega (arith, one-no e))
 
+  pub count-none : (t : A → Bool) (l : List A) → Every (λ x. t x ≡ false) l → count t l ≡ 0
+  count-none t [] e = count-nil t
+  count-none t (x ∷ l) e = count-cons t x l ∙ omega (arith, one-no (e .0), count-none t l (e .1))
+
   pub count-tab : (t : A → Bool) (n : ℕ) (f : ℕ → A) → count t (tab n f) ≡ sum n (λ i. one (t (f i)))
   unfolding tab
   count-tab t zero f = count-nil t ∙ sym (sum-zero 0 _ (λ i l. absurd (not-suc-le-zero l)))

@@ -112,6 +112,10 @@ module _ {A : Type 0} where
   every-at P (y ∷ l) zero {x} e h = let q : y ≡ x = cc in rw q at (e .0)
   every-at P (y ∷ l) (suc i) e h = every-at P l i (e .1) h
 
+  pub every-map : (P Q : A → Type 0) (l : List A) → ((x : A) → P x → Q x) → Every P l → Every Q l
+  every-map P Q [] f e = tt
+  every-map P Q (x ∷ l) f e = (f x (e .0), every-map P Q l f (e .1))
+
   pub every-append : (P : A → Type 0) (l m : List A) → Every P l → Every P m → Every P (l ++ m)
   every-append P [] m e f = f
   every-append P (x ∷ l) m e f = (e .0, every-append P l m (e .1) f)

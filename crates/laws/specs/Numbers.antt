@@ -2,7 +2,10 @@
 use mathlib.Core.Path.{_≡_, refl, sym, ap, _∙_}
 use Prim.Native.Nat.{ℕ, _+_, _*_, _/_, _%_, _<_}
 use native.Mathlib.Nat.{div-div-eq-div-mul, mod-add-div, mod-eq-of-lt}
+use native.Mathlib.Decide.{decLt}
 use native.Mathlib.Omega.{arith}
+use lib.Dec.{leb, ltb}
+use borrow.Author.Tests.{le-leb, lt-leb}
 
 -- a word of four bytes, put together again
 pub four-bytes : (n : ℕ)
@@ -27,3 +30,10 @@ four-bytes n h =
   where
     digits : (x y z c a b n : ℕ) → x + 256 * a ≡ n → y + 256 * b ≡ a → z + 256 * c ≡ b → x + 256 * y + 65536 * z + 16777216 * c ≡ n
     digits x y z c a b n p q s = omega arith
+
+-- two pairs of numbers with the same distance are ordered alike
+pub leb-shift : (x y x′ y′ : ℕ) → x + y′ ≡ x′ + y → leb x y ≡ leb x′ y′
+leb-shift x y x′ y′ e = elim (decLt y x) [
+  | yes l ↦ lt-leb x y l ∙ sym (lt-leb x′ y′ (omega arith))
+  | no l ↦ le-leb x y (omega arith) ∙ sym (le-leb x′ y′ (omega arith))
+]

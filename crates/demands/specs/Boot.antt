@@ -1,0 +1,46 @@
+-- What is known where block and flash boot. Of the refusals, demand 2 needs 1, 4 and 12 alone.
+use mathlib.Core.Path.{_≡_, refl, sym, _∙_}
+use mathlib.Core.List.{List}
+use mathlib.Core.Bool.{Bool, true, false}
+use Prim.Native.Nat.{ℕ, _+_, _*_, _/_, _%_, _≤_}
+use native.Mathlib.Omega.{arith}
+use lib.ListN.{length}
+use lib.Dec.{eqb}
+use borrow.Author.Tests.{eqb-true, ltb-false, not-false}
+use Rattle.rules.specs.Block.{processCount}
+use Rattle.rules.specs.Order.{pagesNeeded}
+use Rattle.rules.specs.Refusals.{checks, verdict, ramUnfit, outside, countsOutOfBounds, ramTooSmall}
+use Rattle.rules.specs.Load.{boots}
+use Rattle.laws.specs.Choice.{any-none}
+use Rattle.laws.specs.Lists.{Every}
+use Rattle.demands.specs.Refusal.{Passes}
+use Rattle.demands.specs.Demand1.{boots-where-no-cause-holds}
+
+-- RAM of N pages from physical page `base` on: it ends within 32 bits, and has the pages needed
+pub record Room (b : List ℕ) (base N : ℕ) : Type 0 where
+  pub end : base + N ≤ 0x10_0000
+  pub enough : pagesNeeded b N ≤ N
+
+-- RAM is whole pages, and has room; there is a process
+pub record Boot (b : List ℕ) (start len : ℕ) : Type 0 where
+  pub processes : 1 ≤ processCount b
+  pub aligned : 4096 * (start / 4096) ≡ start
+  pub whole : 4096 * (len / 4096) ≡ len
+  pub room : Room b (start / 4096) (len / 4096)
+
+from-checks : (b : List ℕ) (flash start len : ℕ) → Every Passes (checks b flash start len) → Boot b start len
+unfolding checks ramUnfit countsOutOfBounds outside ramTooSmall
+from-checks b flash start len ps =
+    let good : (i : ℕ) → _ = any-none _ (ps .0) in
+    let big : pagesNeeded b (len / 4096) ≤ len / 4096 = ltb-false _ _ (ps .1 .1 .1 .1 .1 .1 .1 .1 .1 .0) in
+    let w : len % 4096 ≡ 0 = eqb-true (len % 4096) 0 (not-false _ (good 0)) in
+    let a : start % 4096 ≡ 0 = eqb-true (start % 4096) 0 (not-false _ (good 2)) in
+    let e : start + len ≤ 0x1_0000_0000 = ltb-false 0x1_0000_0000 (start + len) (good 3) in
+    let p : 1 ≤ processCount b = ltb-false _ _ (any-none _ (any-none _ (ps .1 .1 .1 .0) 0) 0) in
+    record { processes = p; aligned = omega arith; whole = omega arith; room = record { end = omega arith; enough = big } }
+
+pub boot : (b flash : List ℕ) (start : ℕ) (ram : List ℕ) → boots b flash start ram ≡ true → Boot b start (length ram)
+unfolding boots
+boot b flash start ram e =
+    from-checks b (length flash) start (length ram)
+    (boots-where-no-cause-holds b (length flash) start (length ram) .0 (eqb-true (verdict b (length flash) start (length ram) .number) 0 e))

@@ -1,0 +1,141 @@
+-- What stands at a virtual page, by cases: one rule for every statement about it.
+use mathlib.Core.Path.{_≡_, refl, sym, ap, _∙_}
+use mathlib.Core.Logic.{_≢_}
+use mathlib.Core.List.{List}
+use mathlib.Core.Option.{Option, none, some}
+use mathlib.Core.Bool.{Bool, true, false, _&&_}
+use Prim.Native.Nat.{ℕ, zero, suc, _+_, _-_, _*_, _/_, _≤_, _<_}
+use native.Mathlib.Omega.{arith}
+use lib.Dec.{leb, ltb, eqb}
+use borrow.Author.Tests.{eqb-true, eqb-false, eq-eqb, ne-eqb, leb-true, ltb-true, le-leb}
+use Rattle.notation.specs.Choice.{choose}
+use Rattle.notation.specs.Lists.{findLast, exists}
+use Rattle.rules.specs.Block.{processCount, sectionsOf, sectionRecord, firstPage, lastPage, pageCount, writable, executable}
+use Rattle.rules.specs.Space.{Data, sectionPage, trackerPage, processList, blockCopy, Mapping, unmapped, stack, maps, hasPage, sectionMapping, sectionAtPage, inTracker, kernelPage, inStack, userPage, mappingAt}
+use Rattle.rules.specs.Order.{Use, holds, order, inRootSlot, hasLeaf}
+use Rattle.laws.specs.Choice.{by-test, by-choose, choose-yes, choose-no, and-left, and-right, and-both, choose-or}
+use Rattle.laws.specs.Lists.{Occurs, by-find-last, exists-hit}
+use Rattle.demands.specs.Placement.{order-section, order-tracker, order-process-list, order-block-copy}
+
+pub has-page-first : (b : List ℕ) (v n : ℕ) → hasPage b v n ≡ true → firstPage b n ≤ v
+unfolding hasPage
+has-page-first b v n e = leb-true _ _ (and-left _ _ e)
+
+pub has-page-last : (b : List ℕ) (v n : ℕ) → hasPage b v n ≡ true → v ≤ lastPage b n
+unfolding hasPage
+has-page-last b v n e = leb-true _ _ (and-right (leb (firstPage b n) v) _ e)
+
+pub in-tracker-first : (T v : ℕ) → inTracker T v ≡ true → 0xFFF40 ≤ v
+unfolding inTracker
+in-tracker-first T v e = leb-true _ _ (and-left _ _ e)
+
+pub in-tracker-last : (T v : ℕ) → inTracker T v ≡ true → v < 0xFFF40 + T
+unfolding inTracker
+in-tracker-last T v e = ltb-true _ _ (and-right (leb 0xFFF40 v) _ e)
+
+in-stack-slot : (v : ℕ) → inStack v ≡ true → v / 1024 ≡ 511
+unfolding inStack
+in-stack-slot v e = omega (arith, leb-true 0x7FFFC v (and-left _ (leb v 0x7FFFF) e), leb-true v 0x7FFFF (and-right (leb 0x7FFFC v) _ e))
+
+-- THE CASES. A page with the user right is of a section of the process itself
+module _ (P : Mapping → Type 0) (b : List ℕ) (T q v : ℕ)
+    (p-unmapped : P unmapped)
+    (p-stack : P stack)
+    (p-user : (j : ℕ) → let n = sectionRecord b q j in j < sectionsOf b q → hasPage b v n ≡ true
+    → P (maps (sectionPage q j (v - firstPage b n)) (writable b n) (executable b n) true))
+    (p-kernel : (j : ℕ) → let n = sectionRecord b 1 j in j < sectionsOf b 1 → hasPage b v n ≡ true
+    → P (maps (sectionPage 1 j (v - firstPage b n)) (writable b n) (executable b n) false))
+    (p-block-copy : v ≡ 0xFFF00 → P (maps blockCopy false false false))
+    (p-tracker : inTracker T v ≡ true → P (maps (trackerPage (v - 0xFFF40)) true false false))
+    (p-process-list : v ≡ 0xFFF80 → P (maps processList false false false)) where
+  at-section : (p : ℕ) (u : Bool)
+      → ((j : ℕ) → let n = sectionRecord b p j in j < sectionsOf b p → hasPage b v n ≡ true
+      → P (maps (sectionPage p j (v - firstPage b n)) (writable b n) (executable b n) u))
+      → P (sectionAtPage b p v u)
+  unfolding sectionAtPage sectionMapping
+  at-section p u h = by-find-last (λ j. hasPage b v (sectionRecord b p j)) (λ m. P (sectionMapping b p v u m)) (sectionsOf b p) (λ _. p-unmapped) (λ j e l. h j l e)
+
+  pub by-mapping : P (mappingAt b T q v)
+  unfolding mappingAt kernelPage userPage
+  by-mapping =
+      by-choose P (eqb (v / 1024) 1023) _ _
+      (λ _. by-choose P (eqb v 0xFFF80) _ _ (λ e. p-process-list (eqb-true v 0xFFF80 e))
+      (λ _. by-choose P (inTracker T v) _ _ p-tracker
+      (λ _. by-choose P (eqb v 0xFFF00) _ _ (λ e. p-block-copy (eqb-true v 0xFFF00 e))
+      (λ _. at-section 1 false p-kernel))))
+      (λ _. by-choose P (eqb q 1) _ _ (λ _. p-unmapped)
+      (λ _. by-choose P (inStack v) _ _ (λ _. p-stack) (λ _. at-section q true p-user)))
+
+-- every page of data that stands somewhere is in the order, and stands at its one virtual page
+unfoldable pub homeOf : List ℕ → Data → ℕ
+homeOf b (sectionPage q j i) = firstPage b (sectionRecord b q j) + i
+homeOf b (trackerPage i) = 0xFFF40 + i
+homeOf b processList = 0xFFF80
+homeOf b blockCopy = 0xFFF00
+
+abbrev pub AtHome : List ℕ → ℕ → ℕ → Mapping → Type 0
+AtHome b T v unmapped = Unit {0}
+AtHome b T v stack = Unit {0}
+AtHome b T v (maps d w x u) = Occurs (order b T) (holds d) × (homeOf b d ≡ v)
+
+section-at-home : (b : List ℕ) (T q v j : ℕ) → 1 ≤ q → q ≤ processCount b → j < sectionsOf b q → hasPage b v (sectionRecord b q j) ≡ true
+    → Occurs (order b T) (holds (sectionPage q j (v - firstPage b (sectionRecord b q j)))) × (homeOf b (sectionPage q j (v - firstPage b (sectionRecord b q j))) ≡ v)
+unfolding homeOf pageCount
+section-at-home b T q v j lo hi l e =
+    let f : firstPage b (sectionRecord b q j) ≤ v = has-page-first b v _ e in
+    let g : v ≤ lastPage b (sectionRecord b q j) = has-page-last b v _ e in
+    (order-section b T q j (v - firstPage b (sectionRecord b q j)) lo hi l (omega arith), omega arith)
+
+pub at-home : (b : List ℕ) (T q v : ℕ) → 1 ≤ q → q ≤ processCount b → AtHome b T v (mappingAt b T q v)
+unfolding homeOf
+at-home b T q v lo hi =
+    by-mapping (AtHome b T v) b T q v tt tt
+    (λ j l e. section-at-home b T q v j lo hi l e)
+    (λ j l e. section-at-home b T 1 v j (omega arith) (omega arith) l e)
+    (λ e. (order-block-copy b T, sym e))
+    (λ e. (order-tracker b T (v - 0xFFF40) (omega (arith, in-tracker-first T v e, in-tracker-last T v e)), omega (arith, in-tracker-first T v e)))
+    (λ e. (order-process-list b T, sym e))
+
+-- a page with the user right is a page of one of the process's own sections
+abbrev pub Own : ℕ → Mapping → Type 0
+Own q unmapped = Unit {0}
+Own q stack = Unit {0}
+Own q (maps d w x u) = u ≡ true → (j : ℕ) × (i : ℕ) × (d ≡ sectionPage q j i)
+
+pub own : (b : List ℕ) (T q v : ℕ) → Own q (mappingAt b T q v)
+own b T q v = by-mapping (Own q) b T q v tt tt (λ j _ _ _. (j, _, refl)) (λ j _ _ e. absurd (true-false e)) (λ _ e. absurd (true-false e)) (λ _ e. absurd (true-false e)) (λ _ e. absurd (true-false e))
+  where
+    true-false : false ≡ true → ⊥
+    true-false e = let z : _≡_ {A = ℕ} 0 1 = cc in omega arith
+
+-- WHERE A PROCESS HAS NO LEAF TABLE, NOTHING STANDS
+in-root-slot : (b : List ℕ) (v n : ℕ) → hasPage b v n ≡ true → inRootSlot b (v / 1024) n ≡ true
+unfolding inRootSlot
+in-root-slot b v n e =
+    let f : firstPage b n ≤ v = has-page-first b v n e in
+    let g : v ≤ lastPage b n = has-page-last b v n e in
+    and-both (le-leb (firstPage b n / 1024) (v / 1024) (omega arith)) (le-leb (v / 1024) (lastPage b n / 1024) (omega arith))
+
+user-unmapped : (b : List ℕ) (q v : ℕ) → choose (eqb (v / 1024) 511) true (exists (λ j. inRootSlot b (v / 1024) (sectionRecord b q j)) (sectionsOf b q)) ≡ false
+    → userPage b q v ≡ unmapped
+unfolding userPage sectionAtPage sectionMapping
+user-unmapped b q v e =
+    let none-here : (eqb (v / 1024) 511 ≡ false) × (exists (λ j. inRootSlot b (v / 1024) (sectionRecord b q j)) (sectionsOf b q) ≡ false) = choose-or _ _ e in
+    by-choose (λ s. s ≡ unmapped) (inStack v) _ _
+    (λ t. absurd (eqb-false (v / 1024) 511 (none-here .0) (in-stack-slot v t)))
+    (λ _. by-find-last (λ j. hasPage b v (sectionRecord b q j)) (λ m. sectionMapping b q v true m ≡ unmapped) (sectionsOf b q)
+    (λ _. refl)
+    (λ j c h. cc (exists-hit (λ j. inRootSlot b (v / 1024) (sectionRecord b q j)) (sectionsOf b q) j (in-root-slot b v _ c) h, none-here .1)))
+
+pub no-leaf : (b : List ℕ) (T q v : ℕ) → v / 1024 ≢ 1023 → hasLeaf b q (v / 1024) ≡ false → mappingAt b T q v ≡ unmapped
+unfolding mappingAt hasLeaf choose
+no-leaf b T q v n e =
+    rw (ne-eqb (v / 1024) 1023 n)
+    (by-test (λ c. choose c (eqb (v / 1024) 1023) (choose (eqb (v / 1024) 511) true (exists (λ j. inRootSlot b (v / 1024) (sectionRecord b q j)) (sectionsOf b q))) ≡ false
+    → choose c unmapped (userPage b q v) ≡ unmapped)
+    (eqb q 1) (λ _ _. refl) (λ _ z. user-unmapped b q v z) e)
+
+-- the kernel's part is the same for every process
+pub kernel-part : (b : List ℕ) (T q v : ℕ) → v / 1024 ≡ 1023 → mappingAt b T 1 v ≡ mappingAt b T q v
+unfolding mappingAt choose
+kernel-part b T q v e = rw (eq-eqb (v / 1024) 1023 e)

@@ -1,0 +1,106 @@
+-- Each use that the rules name is in the order of pages, and stands in RAM where the order puts it.
+use mathlib.Core.Path.{_≡_, refl, sym, ap, _∙_}
+use mathlib.Core.List.{List, [], _∷_, _++_}
+use mathlib.Core.Option.{Option, none, some}
+use mathlib.Core.Bool.{Bool, true, false}
+use Prim.Native.Nat.{ℕ, zero, suc, _+_, _-_, _≤_, _<_}
+use native.Mathlib.Decide.{ℕ-discrete}
+use native.Mathlib.Omega.{arith}
+use lib.ListN.{length}
+use Rattle.notation.specs.Choice.{choose}
+use Rattle.notation.specs.Lists.{tab, gather, lookup, countBefore}
+use Rattle.rules.specs.Block.{processCount, sectionsOf, sectionRecord, pageCount}
+use Rattle.rules.specs.Space.{Data, Data-discrete, sectionPage, trackerPage, processList, blockCopy}
+use Rattle.rules.specs.Order.{Use, Use-discrete, top, holds, rootTable, leafTable, sectionUses, hasLeaf, tableUses, order, uses, pagesNeeded, freePages, useOf, sameUse, ramPage, trackerPages}
+use Rattle.laws.specs.Lists.{Occurs, occurs-here, occurs-there, occurs-left, occurs-right, occurs-tab, occurs-gather, First, count-before-finds, lookup-inside, lookup-outside, lookup-left, lookup-tab}
+
+-- IN THE ORDER
+module _ (b : List ℕ) (T : ℕ) where
+  placed-section : (q j i : ℕ) → j < sectionsOf b q → i < pageCount b (sectionRecord b q j) → Occurs (sectionUses b q) (holds (sectionPage q j i))
+  unfolding sectionUses
+  placed-section q j i h l = occurs-gather _ _ j h (occurs-tab _ (λ i. holds (sectionPage q j i)) i l)
+
+  pub order-section : (q j i : ℕ) → 1 ≤ q → q ≤ processCount b → j < sectionsOf b q → i < pageCount b (sectionRecord b q j)
+      → Occurs (order b T) (holds (sectionPage q j i))
+  unfolding order
+  order-section q j i lo hi h l = occurs-right (tab 4 top) _ (elim (ℕ-discrete q 1) [
+    | yes e ↦ rw e (occurs-right (gather _ _) _ (occurs-left _ _ (rw e at (placed-section q j i h l))))
+    | no e ↦
+        let s : q - 2 + 2 ≡ q = omega arith in
+        occurs-left _ _ (occurs-gather _ (λ i. sectionUses b (i + 2)) (q - 2) (omega arith) (rw s (placed-section q j i h l)))
+  ])
+
+  -- an element of what follows the sections
+  after-sections : (u : Use) → Occurs (tab T (λ i. holds (trackerPage i)) ++ (holds processList ∷ holds blockCopy ∷ gather (processCount b) (λ i. tableUses b (i + 1)))) u
+      → Occurs (order b T) u
+  unfolding order
+  after-sections u o = occurs-right (tab 4 top) _ (occurs-right (gather _ _) _ (occurs-right (sectionUses b 1) _ o))
+
+  pub order-tracker : (i : ℕ) → i < T → Occurs (order b T) (holds (trackerPage i))
+  order-tracker i h = after-sections _ (occurs-left _ _ (occurs-tab T (λ i. holds (trackerPage i)) i h))
+
+  pub order-process-list : Occurs (order b T) (holds processList)
+  order-process-list = after-sections _ (occurs-right (tab T _) _ (occurs-here _ _))
+
+  pub order-block-copy : Occurs (order b T) (holds blockCopy)
+  order-block-copy = after-sections _ (occurs-right (tab T _) _ (occurs-there _ _ (occurs-here _ _)))
+
+  order-table : (q : ℕ) (u : Use) → 1 ≤ q → q ≤ processCount b → Occurs (tableUses b q) u → Occurs (order b T) u
+  order-table q u lo hi o =
+      let s : q - 1 + 1 ≡ q = omega arith in
+      after-sections u (occurs-right (tab T _) _ (occurs-there _ _ (occurs-there _ _
+      (occurs-gather _ (λ i. tableUses b (i + 1)) (q - 1) (omega arith) (rw s o)))))
+
+  pub order-root : (q : ℕ) → 1 ≤ q → q ≤ processCount b → Occurs (order b T) (rootTable q)
+  unfolding tableUses
+  order-root q lo hi = order-table q _ lo hi (occurs-here _ _)
+
+  pub order-leaf : (q m : ℕ) → 1 ≤ q → q ≤ processCount b → m < 1024 → hasLeaf b q m ≡ true → Occurs (order b T) (leafTable q m)
+  unfolding tableUses choose
+  order-leaf q m lo hi h e = order-table q _ lo hi (occurs-there _ _ (occurs-gather 1024 _ m h (rw e (occurs-here _ _))))
+
+-- IN RAM
+same-use-refl : (u : Use) → sameUse u u ≡ true
+unfolding sameUse
+same-use-refl u = go (Use-discrete ℕ-discrete (Data-discrete ℕ-discrete) u u)
+  where
+    go : (d : Dec (u ≡ u)) → (elim d as (λ x. Bool) [ yes e ↦ true | no e ↦ false ]) ≡ true
+    go (yes e) = refl
+    go (no e) = absurd (e refl)
+
+same-use-eq : (u v : Use) → sameUse u v ≡ true → u ≡ v
+unfolding sameUse
+same-use-eq u v = go (Use-discrete ℕ-discrete (Data-discrete ℕ-discrete) u v)
+  where
+    go : (d : Dec (u ≡ v)) → (elim d as (λ x. Bool) [ yes e ↦ true | no e ↦ false ]) ≡ true → u ≡ v
+    go (yes e) h = e
+    go (no e) h = cc
+
+-- the RAM page of a use is in RAM, and its use is that one
+pub record InRam (b : List ℕ) (N : ℕ) (u : Use) : Type 0 where
+  pub inside : ramPage b N u < N
+  pub used : useOf b N (ramPage b N u) ≡ some u
+
+pub in-ram : (b : List ℕ) (N : ℕ) (u : Use) → pagesNeeded b N ≤ N → Occurs (uses b N) u → InRam b N u
+unfolding ramPage useOf pagesNeeded
+in-ram b N u enough o =
+    let f : First (sameUse u) (uses b N) = count-before-finds (sameUse u) (uses b N) (o .0) u (o .1) (same-use-refl u) in
+    let e : u ≡ f .value = same-use-eq u (f .value) (f .passes) in
+    let l : countBefore (sameUse u) (uses b N) < length (uses b N) = lookup-inside _ _ _ (f .found) in
+    let s : N - 1 - (N - 1 - countBefore (sameUse u) (uses b N)) ≡ countBefore (sameUse u) (uses b N) = omega arith in
+    record { inside = omega arith; used = rw s (f .found ∙ ap some (sym e)) }
+
+-- two uses of one RAM page are one use
+pub one-use : (b : List ℕ) (N : ℕ) (u v : Use) → InRam b N u → InRam b N v → ramPage b N u ≡ ramPage b N v → u ≡ v
+one-use b N u v i j e =
+    let s : some u ≡ some v = sym (i .used) ∙ ap (useOf b N) e ∙ j .used in cc
+
+-- a page below those taken is free
+pub use-free : (b : List ℕ) (N k : ℕ) → k < freePages b N → useOf b N k ≡ none
+unfolding useOf freePages pagesNeeded
+use-free b N k h = lookup-outside (uses b N) (N - 1 - k) (omega arith)
+
+-- the four pages at the top
+pub use-top : (b : List ℕ) (N k : ℕ) → N ≤ k + 4 → k < N → useOf b N k ≡ some (top (N - 1 - k))
+unfolding useOf uses order
+use-top b N k l h = lookup-left (tab 4 top) _ (N - 1 - k) _ (lookup-tab 4 top (N - 1 - k) (omega arith))
