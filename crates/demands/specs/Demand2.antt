@@ -27,7 +27,7 @@ use Rattle.rules.specs.Sees.{sees, seenFrom, rootOf, processSees}
 use Rattle.laws.specs.Choice.{and-both, choose-yes}
 use Rattle.laws.specs.Lists.{Occurs}
 use Rattle.demands.specs.Boot.{Room, Boot, boot}
-use Rattle.demands.specs.Placement.{InRam, in-ram, one-use, use-free, use-top}
+use Rattle.placement.specs.Uses.{InRam, in-ram, one-use, use-free, use-top}
 use Rattle.demands.specs.Mappings.{AtHome, at-home, homeOf, Own, own}
 use Rattle.demands.specs.Entries.{readable}
 use Rattle.demands.specs.Walk.{answerFor, walk-answers, sees-rules}

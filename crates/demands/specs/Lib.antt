@@ -1,7 +1,6 @@
 pub mod Refusal
 pub mod Demand1
 pub mod Boot
-pub mod Placement
 pub mod Mappings
 pub mod Entries
 pub mod Walk

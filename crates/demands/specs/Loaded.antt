@@ -13,7 +13,7 @@ use Rattle.rules.specs.Contents.{tracker}
 use Rattle.rules.specs.Load.{pageByte, loaded, boots, ramAfter}
 use Rattle.laws.specs.Choice.{choose-yes, by-choose}
 use Rattle.laws.specs.Lists.{tab-length, tab-get, take-tab-append}
-use Rattle.demands.specs.Placement.{InRam}
+use Rattle.placement.specs.Uses.{InRam}
 
 module _ (b flash : List ℕ) (start : ℕ) (ram : List ℕ) where
   pub loaded-length : length (loaded b flash start ram) ≡ length ram

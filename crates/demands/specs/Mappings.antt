@@ -15,7 +15,7 @@ use Rattle.rules.specs.Space.{Data, sectionPage, trackerPage, processList, bloc
 use Rattle.rules.specs.Order.{Use, holds, order, inRootSlot, hasLeaf}
 use Rattle.laws.specs.Choice.{by-test, by-choose, choose-yes, choose-no, and-left, and-right, and-both, choose-or}
 use Rattle.laws.specs.Lists.{Occurs, by-find-last, exists-hit}
-use Rattle.demands.specs.Placement.{order-section, order-tracker, order-process-list, order-block-copy}
+use Rattle.placement.specs.Uses.{order-section, order-tracker, order-process-list, order-block-copy}
 
 pub has-page-first : (b : List ℕ) (v n : ℕ) → hasPage b v n ≡ true → firstPage b n ≤ v
 unfolding hasPage

@@ -32,7 +32,7 @@ use Rattle.laws.specs.Lists.{Occurs}
 use Rattle.laws.specs.Numbers.{leb-shift}
 use Rattle.laws.specs.Words.{word-of-bytes}
 use Rattle.demands.specs.Boot.{Room}
-use Rattle.demands.specs.Placement.{InRam, in-ram, order-root, order-leaf, order-process-list}
+use Rattle.placement.specs.Uses.{InRam, in-ram, order-root, order-leaf, order-process-list}
 use Rattle.demands.specs.Mappings.{AtHome, at-home, homeOf, no-leaf, kernel-part}
 use Rattle.demands.specs.Entries.{readable, decode-page, decode-pointer, decode-absent, decode-reserved, page-entry-word, pointer-entry-word}
 

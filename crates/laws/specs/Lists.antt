@@ -1,5 +1,6 @@
 -- Laws of lists given by a rule.
 use mathlib.Core.Path.{_≡_, refl, sym, ap, _∙_}
+use mathlib.Core.Logic.{_⊎_, inl, inr}
 use mathlib.Core.List.{List, [], _∷_, _++_}
 use mathlib.Core.Bool.{Bool, true, false}
 use mathlib.Core.Option.{Option, none, some}
@@ -153,6 +154,66 @@ module _ {A : Type 0} where
   count-before-finds t [] i x e p = none-some e
   count-before-finds t (y ∷ l) zero x e p = first-here t y l (cc)
   count-before-finds t (y ∷ l) (suc i) x e p = first-cons t y l (t y) refl (count-before-finds t l i x e p)
+
+  -- FIRST AT: the first element that passes a test stands at i
+  pub record FirstAt (t : A → Bool) (l : List A) (i : ℕ) : Type 0 where
+    pub inside : i < length l
+    pub before : countBefore t l ≡ i
+
+  -- no element passes
+  abbrev pub Absent : (A → Bool) → List A → Type 0
+  Absent t l = Every (λ x. t x ≡ false) l
+
+  pub first-at-here : (t : A → Bool) (x : A) (l : List A) → t x ≡ true → FirstAt t (x ∷ l) 0
+  unfolding countBefore choose
+  first-at-here t x l e = record { inside = omega arith; before = rw e }
+
+  pub first-at-there : (t : A → Bool) (x : A) {l : List A} {i : ℕ} → t x ≡ false → FirstAt t l i → FirstAt t (x ∷ l) (suc i)
+  unfolding countBefore choose
+  first-at-there t x e f = record { inside = omega (arith, f .inside); before = rw (e, f .before) }
+
+  pub first-at-cast : {t : A → Bool} {l : List A} {i j : ℕ} → FirstAt t l i → i ≡ j → FirstAt t l j
+  first-at-cast f e = rw e at f
+
+  -- in x ∷ l it is x itself, or the first in l
+  first-at-cons : (t : A → Bool) (x : A) (l : List A) (i : ℕ) (c : Bool) → t x ≡ c → FirstAt t (x ∷ l) i
+      → ((t x ≡ true) × (i ≡ 0)) ⊎ ((t x ≡ false) × FirstAt t l (i - 1) × (i ≡ suc (i - 1)))
+  unfolding countBefore choose
+  first-at-cons t x l i true e f = inl (e, sym (rw e at (f .before)))
+  first-at-cons t x l i false e f =
+      let b : suc (countBefore t l) ≡ i = rw e at (f .before) in
+      inr (e, record { inside = omega (arith, f .inside); before = omega arith }, omega arith)
+
+  pub first-at-left : (t : A → Bool) (l m : List A) (i : ℕ) → FirstAt t l i → FirstAt t (l ++ m) i
+  first-at-left t [] m i f = absurd (not-suc-le-zero (f .inside))
+  first-at-left t (x ∷ l) m i f = go (first-at-cons t x l i (t x) refl f) (λ j g. first-at-left t l m j g)
+    where
+      go : ((t x ≡ true) × (i ≡ 0)) ⊎ ((t x ≡ false) × FirstAt t l (i - 1) × (i ≡ suc (i - 1)))
+          → ((j : ℕ) → FirstAt t l j → FirstAt t (l ++ m) j) → FirstAt t (x ∷ (l ++ m)) i
+      go (inl p) ih = first-at-cast (first-at-here t x (l ++ m) (p .0)) (sym (p .1))
+      go (inr p) ih = first-at-cast (first-at-there t x (p .0) (ih (i - 1) (p .1))) (sym (p .2))
+
+  pub first-at-right : (t : A → Bool) (l m : List A) (i : ℕ) → Absent t l → FirstAt t m i → FirstAt t (l ++ m) (length l + i)
+  first-at-right t [] m i a f = first-at-cast f (omega arith)
+  first-at-right t (x ∷ l) m i a f = first-at-cast (first-at-there t x (a .0) (first-at-right t l m i (a .1) f)) (omega arith)
+
+  pub first-at-tab : (t : A → Bool) (n : ℕ) (f : ℕ → A) (i : ℕ) → i < n → t (f i) ≡ true → ((k : ℕ) → k < i → t (f k) ≡ false) → FirstAt t (tab n f) i
+  unfolding tab
+  first-at-tab t zero f i h e a = absurd (not-suc-le-zero h)
+  first-at-tab t (suc n) f zero h e a = first-at-here t (f zero) _ e
+  first-at-tab t (suc n) f (suc i) h e a =
+      first-at-there t (f zero) (a zero (omega arith)) (first-at-tab t n (λ k. f (suc k)) i (le-of-suc-le-suc h) e (λ k l. a (suc k) (omega arith)))
+
+  pub first-at-gather : (t : A → Bool) (n : ℕ) (f : ℕ → List A) (k i : ℕ) → k < n → ((m : ℕ) → m < k → Absent t (f m)) → FirstAt t (f k) i
+      → FirstAt t (gather n f) (length (gather k f) + i)
+  unfolding gather
+  first-at-gather t zero f k i h a p = absurd (not-suc-le-zero h)
+  first-at-gather t (suc n) f k i h a p = elim (decLt k n)
+      [ yes l ↦ first-at-left t (gather n f) (f n) _ (first-at-gather t n f k i l a p)
+      | no l ↦
+          let e : k ≡ n = omega arith in
+          let q : FirstAt t (f n) i = rw e at p in
+          rw e (first-at-right t (gather n f) (f n) i (every-gather _ n f (λ m h. a m (omega arith))) q) ]
 
 -- FIND-LAST, EXISTS
 -- the search, by cases on its answer
