@@ -7,11 +7,11 @@ use Prim.Native.Nat.{ℕ, zero, suc, _+_, _-_, _*_, _≤_, _<_}
 use native.Mathlib.Nat.{not-suc-le-zero, le-of-suc-le-suc, zero-add}
 use native.Mathlib.Decide.{ℕ-discrete}
 use native.Mathlib.Omega.{arith}
-use lib.ListN.{length}
+use lib.ListN.{length, length-append}
 use lib.Dec.{eqb}
 use borrow.Author.Tests.{eq-eqb, ne-eqb}
 use Rattle.notation.specs.Choice.{choose}
-use Rattle.notation.specs.Lists.{tab, count, sum, lookup}
+use Rattle.notation.specs.Lists.{tab, gather, count, sum, lookup}
 use Rattle.laws.specs.Choice.{by-choose, choose-yes, choose-no}
 use Rattle.laws.specs.Lists.{Every}
 
@@ -78,6 +78,18 @@ sum-one (suc n) k lo hi = elim (ℕ-discrete k (suc n)) [
       let o : one (eqb k (n + 1)) ≡ 0 = one-no (ne-eqb k (n + 1) (λ f. e (omega arith))) in
       omega (arith, sum-one n k lo (omega arith))
 ]
+
+-- LENGTHS
+pub gather-length : {A : Type 0} (n : ℕ) (f : ℕ → List A) → length (gather n f) ≡ sum n (λ i. length (f i))
+unfolding gather sum
+gather-length zero f = refl
+gather-length (suc n) f = length-append (gather n f) (f n) ∙ omega (arith, gather-length n f)
+
+-- one element or none, by a test
+pub choose-length : {A : Type 0} (c : Bool) (x : A) → length (choose c (x ∷ []) []) ≡ one c
+unfolding choose
+choose-length true x = refl
+choose-length false x = refl
 
 -- COUNTS
 module _ {A : Type 0} where

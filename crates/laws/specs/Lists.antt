@@ -208,12 +208,13 @@ module _ {A : Type 0} where
       → FirstAt t (gather n f) (length (gather k f) + i)
   unfolding gather
   first-at-gather t zero f k i h a p = absurd (not-suc-le-zero h)
-  first-at-gather t (suc n) f k i h a p = elim (decLt k n)
-      [ yes l ↦ first-at-left t (gather n f) (f n) _ (first-at-gather t n f k i l a p)
-      | no l ↦
-          let e : k ≡ n = omega arith in
-          let q : FirstAt t (f n) i = rw e at p in
-          rw e (first-at-right t (gather n f) (f n) i (every-gather _ n f (λ m h. a m (omega arith))) q) ]
+  first-at-gather t (suc n) f k i h a p = elim (decLt k n) [
+    | yes l ↦ first-at-left t (gather n f) (f n) _ (first-at-gather t n f k i l a p)
+    | no l ↦
+        let e : k ≡ n = omega arith in
+        let q : FirstAt t (f n) i = rw e at p in
+        rw e (first-at-right t (gather n f) (f n) i (every-gather _ n f (λ m h. a m (omega arith))) q)
+  ]
 
 -- FIND-LAST, EXISTS
 -- the search, by cases on its answer

@@ -12,6 +12,7 @@ use Rattle.notation.specs.Lists.{tab, gather, lookup, countBefore}
 use Rattle.rules.specs.Block.{processCount, sectionsOf, sectionRecord, pageCount}
 use Rattle.rules.specs.Space.{Data, Data-discrete, sectionPage, trackerPage, processList, blockCopy}
 use Rattle.rules.specs.Order.{Use, Use-discrete, top, holds, rootTable, leafTable, sectionUses, hasLeaf, tableUses, order, uses, pagesNeeded, freePages, useOf, sameUse, ramPage, trackerPages}
+use Rattle.laws.specs.Choice.{by-test}
 use Rattle.laws.specs.Lists.{Occurs, occurs-here, occurs-there, occurs-left, occurs-right, occurs-tab, occurs-gather, First, count-before-finds, lookup-inside, lookup-outside, lookup-left, lookup-tab}
 
 -- IN THE ORDER
@@ -60,7 +61,7 @@ module _ (b : List ℕ) (T : ℕ) where
   order-leaf q m lo hi h e = order-table q _ lo hi (occurs-there _ _ (occurs-gather 1024 _ m h (rw e (occurs-here _ _))))
 
 -- IN RAM
-same-use-refl : (u : Use) → sameUse u u ≡ true
+pub same-use-refl : (u : Use) → sameUse u u ≡ true
 unfolding sameUse
 same-use-refl u = go (Use-discrete ℕ-discrete (Data-discrete ℕ-discrete) u u)
   where
@@ -68,13 +69,16 @@ same-use-refl u = go (Use-discrete ℕ-discrete (Data-discrete ℕ-discrete) u u
     go (yes e) = refl
     go (no e) = absurd (e refl)
 
-same-use-eq : (u v : Use) → sameUse u v ≡ true → u ≡ v
+pub same-use-eq : (u v : Use) → sameUse u v ≡ true → u ≡ v
 unfolding sameUse
 same-use-eq u v = go (Use-discrete ℕ-discrete (Data-discrete ℕ-discrete) u v)
   where
     go : (d : Dec (u ≡ v)) → (elim d as (λ x. Bool) [ yes e ↦ true | no e ↦ false ]) ≡ true → u ≡ v
     go (yes e) h = e
     go (no e) h = cc
+
+pub same-use-not : (u v : Use) → (u ≡ v → ⊥) → sameUse u v ≡ false
+same-use-not u v n = by-test (λ c. sameUse u v ≡ c → c ≡ false) (sameUse u v) (λ _ e. absurd (n (same-use-eq u v e))) (λ _ _. refl) refl
 
 -- the RAM page of a use is in RAM, and its use is that one
 pub record InRam (b : List ℕ) (N : ℕ) (u : Use) : Type 0 where
