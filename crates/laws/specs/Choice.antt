@@ -34,6 +34,12 @@ unfolding choose
 choose-map f true x y = refl
 choose-map f false x y = refl
 
+-- the same by either of two tests
+pub choose-either : {A : Type 0} (a c : Bool) (x y : A) → choose a x (choose c x y) ≡ choose (choose a true c) x y
+unfolding choose
+choose-either true c x y = refl
+choose-either false c x y = refl
+
 pub and-left : (a c : Bool) → (a && c) ≡ true → a ≡ true
 and-left true c e = refl
 and-left false c e = e
@@ -44,6 +50,10 @@ and-right false c e = cc
 
 pub and-both : {a c : Bool} → a ≡ true → c ≡ true → (a && c) ≡ true
 and-both e f = rw (e, f)
+
+-- the second of two tests that do not both pass, where the first does
+pub and-rest : {a c : Bool} → a ≡ true → (a && c) ≡ false → c ≡ false
+and-rest e h = rw e at h
 
 pub or-left : (a c : Bool) → (a || c) ≡ false → a ≡ false
 or-left true c e = e

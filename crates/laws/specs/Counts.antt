@@ -5,6 +5,7 @@ use mathlib.Core.Bool.{Bool, true, false}
 use mathlib.Core.Option.{Option, none, some}
 use Prim.Native.Nat.{ℕ, zero, suc, _+_, _-_, _*_, _≤_, _<_}
 use native.Mathlib.Nat.{not-suc-le-zero, le-of-suc-le-suc, zero-add}
+use native.Mathlib.Numerals.{add-one}
 use native.Mathlib.Decide.{ℕ-discrete}
 use native.Mathlib.Omega.{arith}
 use lib.ListN.{length, length-append}
@@ -26,6 +27,14 @@ pub one-no : {c : Bool} → c ≡ false → one c ≡ 0
 one-no e = choose-no 1 0 e
 
 -- SUMS
+pub sum-none : (f : ℕ → ℕ) → sum 0 f ≡ 0
+unfolding sum
+sum-none f = refl
+
+pub sum-next : (n : ℕ) (f : ℕ → ℕ) → sum (n + 1) f ≡ sum n f + f n
+unfolding sum
+sum-next n f = rw add-one
+
 pub sum-same : (n : ℕ) (f g : ℕ → ℕ) → ((i : ℕ) → i < n → f i ≡ g i) → sum n f ≡ sum n g
 unfolding sum
 sum-same zero f g h = refl
@@ -80,16 +89,17 @@ sum-one (suc n) k lo hi = elim (ℕ-discrete k (suc n)) [
 ]
 
 -- LENGTHS
-pub gather-length : {A : Type 0} (n : ℕ) (f : ℕ → List A) → length (gather n f) ≡ sum n (λ i. length (f i))
-unfolding gather sum
-gather-length zero f = refl
-gather-length (suc n) f = length-append (gather n f) (f n) ∙ omega (arith, gather-length n f)
+module _ {A : Type 0} where
+  pub gather-length : (n : ℕ) (f : ℕ → List A) → length (gather n f) ≡ sum n (λ i. length (f i))
+  unfolding gather sum
+  gather-length zero f = refl
+  gather-length (suc n) f = length-append (gather n f) (f n) ∙ rw (gather-length n f)
 
--- one element or none, by a test
-pub choose-length : {A : Type 0} (c : Bool) (x : A) → length (choose c (x ∷ []) []) ≡ one c
-unfolding choose
-choose-length true x = refl
-choose-length false x = refl
+  -- a list of one where the test passes, else of none
+  pub one-length : (c : Bool) (x : A) → length (choose c (x ∷ []) []) ≡ one c
+  unfolding choose
+  one-length true x = refl
+  one-length false x = refl
 
 -- COUNTS
 module _ {A : Type 0} where

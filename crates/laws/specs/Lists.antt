@@ -6,6 +6,7 @@ use mathlib.Core.Bool.{Bool, true, false}
 use mathlib.Core.Option.{Option, none, some}
 use Prim.Native.Nat.{ℕ, zero, suc, _+_, _-_, _≤_, _<_}
 use native.Mathlib.Nat.{not-suc-le-zero, le-of-suc-le-suc, zero-add, suc-add}
+use native.Mathlib.Numerals.{add-one}
 use native.Mathlib.Decide.{decLt, ℕ-discrete}
 use native.Mathlib.Omega.{arith}
 use lib.ListN.{length, getD, take, length-append}
@@ -217,6 +218,22 @@ module _ {A : Type 0} where
   ]
 
 -- FIND-LAST, EXISTS
+pub find-last-none : (t : ℕ → Bool) → findLast t 0 ≡ none
+unfolding findLast
+find-last-none t = refl
+
+pub find-last-next : (t : ℕ → Bool) (n : ℕ) → findLast t (n + 1) ≡ choose (t n) (some n) (findLast t n)
+unfolding findLast
+find-last-next t n = rw add-one
+
+pub exists-none : (t : ℕ → Bool) → exists t 0 ≡ false
+unfolding exists
+exists-none t = refl
+
+pub exists-next : (t : ℕ → Bool) (n : ℕ) → exists t (n + 1) ≡ choose (t n) true (exists t n)
+unfolding exists
+exists-next t n = rw add-one
+
 -- the search, by cases on its answer
 pub by-find-last : (t : ℕ → Bool) (P : Option ℕ → Type 0) (n : ℕ)
     → (((j : ℕ) → j < n → t j ≡ false) → P none)

@@ -2,10 +2,10 @@
 use mathlib.Core.Path.{_≡_, refl}
 use mathlib.Core.Bool.{Bool, true, false}
 use mathlib.Core.List.{List}
-use Prim.Native.Nat.{ℕ, _+_, _*_, _/_, _%_, _^_, _<_}
+use Prim.Native.Nat.{ℕ, _+_, _*_, _/_, _%_, _^_, _≤_, _<_}
 use native.Mathlib.Nat.{div-one, add-zero}
 use native.Mathlib.Omega.{arith}
-use lib.ListN.{getD}
+use lib.ListN.{length, getD, List·getD-eq-default}
 use lib.Dec.{eqb}
 use borrow.Author.Tests.{eq-eqb, ne-eqb}
 use Rattle.notation.specs.Words.{word, byteOf, bit}
@@ -23,3 +23,13 @@ word-of-bytes l x n b h =
 pub bit-is : (n k : ℕ) (c : Bool) → n / k % 2 ≡ one c → bit n k ≡ c
 bit-is n k true h = eq-eqb (n / k % 2) 1 (omega (arith, one-yes {c = true} refl))
 bit-is n k false h = ne-eqb (n / k % 2) 1 (λ z. omega (arith, one-no {c = false} refl))
+
+-- past the end every word is 0
+pub word-past : (l : List ℕ) (x : ℕ) → length l ≤ x → word l x ≡ 0
+unfolding word
+word-past l x h = rw (
+  List·getD-eq-default l 0 {n = x} h,
+  List·getD-eq-default l 0 {n = x + 1} (omega arith),
+  List·getD-eq-default l 0 {n = x + 2} (omega arith),
+  List·getD-eq-default l 0 {n = x + 3} (omega arith),
+)

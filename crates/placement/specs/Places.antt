@@ -15,7 +15,7 @@ use Rattle.rules.specs.Space.{Data, sectionPage, trackerPage, processList, bloc
 use Rattle.rules.specs.Order.{Use, top, holds, rootTable, leafTable, sectionUses, hasLeaf, tableUses, order, uses, trackerPages, pagesNeeded, sameUse, ramPage}
 use Rattle.laws.specs.Choice.{by-choose, choose-yes, choose-no}
 use Rattle.laws.specs.Lists.{every-tab, every-gather, Absent, FirstAt, first-at-cast, first-at-here, first-at-there, first-at-left, first-at-right, first-at-tab, first-at-gather, tab-length}
-use Rattle.laws.specs.Counts.{one, sum-same, gather-length, choose-length}
+use Rattle.laws.specs.Counts.{one, sum-same, gather-length, one-length}
 use Rattle.placement.specs.Uses.{same-use-refl, same-use-not}
 
 -- the pages of the first n sections of process q, and of all
@@ -62,7 +62,7 @@ user-uses-length b n = gather-length _ _ ∙ sum-same _ _ _ (λ i _. section-use
 
 leaves-length : (b : List ℕ) (q m : ℕ) → length (gather m (λ k. choose (hasLeaf b q k) (leafTable q k ∷ []) [])) ≡ leavesBelow b q m
 unfolding leavesBelow
-leaves-length b q m = gather-length _ _ ∙ sum-same _ _ _ (λ k _. choose-length (hasLeaf b q k) (leafTable q k))
+leaves-length b q m = gather-length _ _ ∙ sum-same _ _ _ (λ k _. one-length (hasLeaf b q k) (leafTable q k))
 
 pub table-uses-length : (b : List ℕ) (q : ℕ) → length (tableUses b q) ≡ tableCount b q
 unfolding tableUses tableCount

@@ -1,0 +1,59 @@
+use Rattle.rules.specs.Block.{entryPoint, firstSection, sectionsOf, kind, processAt}
+use native.Mathlib.Omega.{arith}
+use borrow.Author.Needs.{needs}
+use Rattle.records.proofs.read_process.Statement.{statement}
+use Rattle.records.proofs.read_process.Tie as tie
+use Rattle.records.proofs.read_process.Reads as reads
+use Rattle.records.proofs.read_process.Lts as lts
+use Rattle.slices.proofs.minus.Reads as minus-reads
+use Rattle.slices.proofs.word.Reads as word-reads
+
+minus-requires : tie.Need-minus-requires
+minus-requires c κs = search needs
+
+mul-at : tie.Need-mul-at
+mul-at c = search needs
+
+add-at : tie.Need-add-at
+add-at c = search needs
+
+word-requires : tie.Need-word-requires
+word-requires c κs = search needs
+
+add-word : tie.Need-add-word
+add-word c = search needs
+
+word-requires-2 : tie.Need-word-requires-2
+word-requires-2 c κs = search needs
+
+add-word-2 : tie.Need-add-word-2
+add-word-2 c = search needs
+
+word-requires-3 : tie.Need-word-requires-3
+word-requires-3 c κs = search needs
+
+add-word-3 : tie.Need-add-word-3
+add-word-3 c = search needs
+
+word-requires-4 : tie.Need-word-requires-4
+word-requires-4 c κs = search needs
+
+returns : tie.Need-returns
+unfolding entryPoint firstSection sectionsOf kind processAt
+returns c = record { entry-point = cc; first-section = cc; sections-of = cc; kind-is = cc }
+
+pub read-process-spec : {M : Type 1} → statement M
+read-process-spec =
+    tie.close
+    (tie.spec
+    minus-requires
+    mul-at
+    add-at
+    word-requires
+    add-word
+    word-requires-2
+    add-word-2
+    word-requires-3
+    add-word-3
+    word-requires-4
+    returns)

@@ -1,0 +1,18 @@
+use Rattle.rules.specs.Block.{sectionCount}
+use native.Mathlib.Omega.{arith}
+use borrow.Author.Needs.{needs}
+use Rattle.records.proofs.section_count.Statement.{statement}
+use Rattle.records.proofs.section_count.Tie as tie
+use Rattle.records.proofs.section_count.Reads as reads
+use Rattle.records.proofs.section_count.Lts as lts
+use Rattle.slices.proofs.word.Reads as word-reads
+
+word-requires : tie.Need-word-requires
+word-requires c κs = search needs
+
+returns : tie.Need-returns
+unfolding sectionCount
+returns c = c .word .ensures
+
+pub section-count-spec : {M : Type 1} → statement M
+section-count-spec = tie.close (tie.spec word-requires returns)

@@ -1,0 +1,141 @@
+// The boot block's counts and records, read from any bytes: what lies past their end counts as 0.
+ghost use mathlib.Core.Path.{_≡_};
+ghost use Prim.Native.Nat.{ℕ, _+_, _-_, _*_, _/_, _<_, _≤_};
+ghost use Rattle.notation.specs.Words.{word, bit as bitOf};
+ghost use Rattle.rules.specs.Block.{processCount, sectionCount, regionCount, sectionAt, ioPagesOf};
+ghost use Rattle.records.specs.Read.{IsProcess, IsSection, IsRegion};
+
+pub struct Process {
+    pub entry_point: u32,
+    pub first_section: u32,
+    pub sections: u32,
+    pub kind: u32,
+}
+
+// A section record, its flags by name, and its virtual pages.
+pub struct Section {
+    pub address: u32,
+    pub size: u32,
+    pub flash_offset: u32,
+    pub flags: u32,
+    pub no_copy: bool,
+    pub writable: bool,
+    pub executable: bool,
+    pub first_page: u32,
+    pub last_page: u32,
+    pub pages: u32,
+}
+
+// A region record, and the address after its last byte.
+pub struct Region {
+    pub start: u32,
+    pub pages: u32,
+    pub end: u64,
+}
+
+// p
+pub fn process_count(block: &[u8]) -> u32
+    ensures { λ r. ⌜ r ≡ processCount (now (block .entry)) ⌝ }
+{
+    slices::word(block, 8)
+}
+
+// s
+pub fn section_count(block: &[u8]) -> u32
+    ensures { λ r. ⌜ r ≡ sectionCount (now (block .entry)) ⌝ }
+{
+    slices::word(block, 16)
+}
+
+// r
+pub fn region_count(block: &[u8]) -> u32
+    ensures { λ r. ⌜ r ≡ regionCount (now (block .entry)) ⌝ }
+{
+    slices::word(block, 24)
+}
+
+// The record of process q. A process 0 would have that of process 1.
+pub fn read_process(block: &[u8], q: u32) -> Process
+    ensures { λ r. ⌜ IsProcess (now (block .entry)) q r ⌝ }
+{
+    let at = 32 + 16 * slices::minus(q as usize, 1);
+    Process {
+        entry_point: slices::word(block, at),
+        first_section: slices::word(block, at + 4),
+        sections: slices::word(block, at + 8),
+        kind: slices::word(block, at + 12),
+    }
+}
+
+// The bit of weight k.
+fn bit(n: u32, k: u32) -> bool
+    requires { ⌜ 0 < k ⌝ }
+    ensures { λ r. ⌜ r ≡ bitOf n k ⌝ }
+{
+    n / k % 2 == 1
+}
+
+// An offset that has the words of section record n.
+fn section_offset(block: &[u8], n: usize) -> usize
+    ensures { λ r. ⌜ (r < 0xFFFF_FFFF_FFFF_FF00) × ((k : ℕ) → word (now (block .entry)) (r + k) ≡ word (now (block .entry)) (sectionAt (now (block .entry)) n + k)) ⌝ }
+{
+    // Past the end all words are 0; there 16 n might wrap.
+    if block.len() / 16 < n {
+        return block.len();
+    }
+    32 + 16 * (process_count(block) as usize) + 16 * n
+}
+
+// Section record n.
+pub fn read_section(block: &[u8], n: usize) -> Section
+    ensures { λ r. ⌜ IsSection (now (block .entry)) n r ⌝ }
+{
+    let at = section_offset(block, n);
+    let address = slices::word(block, at);
+    let size = slices::word(block, at + 4);
+    let flags = slices::word(block, at + 12);
+    let first = address / 4096;
+    let last = (slices::minus(address as usize + size as usize, 1) / 4096) as u32;
+    let pages = last + 1 - first;
+    Section {
+        address,
+        size,
+        flash_offset: slices::word(block, at + 8),
+        flags,
+        no_copy: bit(flags, 1),
+        writable: bit(flags, 2),
+        executable: bit(flags, 4),
+        first_page: first,
+        last_page: last,
+        pages,
+    }
+}
+
+// Region record i.
+pub fn read_region(block: &[u8], i: u32) -> Region
+    ensures { λ r. ⌜ IsRegion (now (block .entry)) i r ⌝ }
+{
+    let sections_at = 32 + 16 * (process_count(block) as usize);
+    let at = sections_at + 16 * (section_count(block) as usize) + 8 * (i as usize);
+    let start = slices::word(block, at);
+    let pages = slices::word(block, at + 4);
+    Region {
+        start,
+        pages,
+        end: start as u64 + 4096 * (pages as u64),
+    }
+}
+
+// The I/O pages of the first n regions.
+pub fn io_pages_of(block: &[u8], n: u32) -> u64
+    ensures { λ r. ⌜ (r ≡ ioPagesOf (now (block .entry)) n) × (r ≤ 4294967295 * n) ⌝ }
+{
+    let mut sum: u64 = 0;
+    let mut i: u32 = 0;
+    while i < n {
+        let region = read_region(block, i);
+        sum += region.pages as u64;
+        i += 1;
+    }
+    sum
+}
