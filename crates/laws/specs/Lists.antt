@@ -10,7 +10,7 @@ use native.Mathlib.Numerals.{add-one}
 use native.Mathlib.Decide.{decLt, ℕ-discrete}
 use native.Mathlib.Omega.{arith}
 use lib.ListN.{length, getD, take, length-append}
-use lib.Seq.{ext-getD}
+use lib.Seq.{ext-getD, getD-append-add}
 use Rattle.notation.specs.Choice.{choose}
 use Rattle.notation.specs.Lists.{tab, gather, lookup, countBefore, findLast, exists}
 use Rattle.laws.specs.Choice.{by-choose, choose-yes, choose-no}
@@ -43,6 +43,12 @@ module _ {A : Type 0} where
   unfolding tab
   take-tab-append zero f l = refl
   take-tab-append (suc n) f l = ap (λ (x : List A). f zero ∷ x) (take-tab-append n (λ k. f (suc k)) l)
+
+  -- an element of the second of two lists
+  pub append-get-right : (xs ys : List A) (n i : ℕ) (d : A) → length xs ≡ n → n ≤ i → getD (xs ++ ys) i d ≡ getD ys (i - n) d
+  append-get-right xs ys n i d e h =
+      let s : length xs + (i - n) ≡ i = omega arith in
+      rw s at (getD-append-add xs ys (i - n) d)
 
   -- LOOKUP
   pub lookup-inside : (l : List A) (i : ℕ) (x : A) → lookup l i ≡ some x → i < length l
