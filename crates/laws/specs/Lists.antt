@@ -32,6 +32,11 @@ module _ {A : Type 0} where
   tab-get (suc n) f zero d h = refl
   tab-get (suc n) f (suc i) d h = tab-get n (λ k. f (suc k)) i d (le-of-suc-le-suc h)
 
+  pub tab-next : (n : ℕ) (f : ℕ → A) → tab (suc n) f ≡ tab n f ++ (f n ∷ [])
+  unfolding tab
+  tab-next zero f = refl
+  tab-next (suc n) f = ap (λ (l : List A). f zero ∷ l) (tab-next n (λ k. f (suc k)))
+
   -- a list that has the elements of a rule
   pub tab-by : (n : ℕ) (f : ℕ → A) (d : A) (l : List A) → length l ≡ n → ((i : ℕ) → i < n → getD l i d ≡ f i) → l ≡ tab n f
   tab-by n f d l e h = ext-getD d l (tab n f) (e ∙ sym (tab-length n f)) (λ i m. let k : i < n = omega arith in h i k ∙ sym (tab-get n f i d k))

@@ -9,14 +9,15 @@ use native.Mathlib.Omega.{arith}
 use lib.ListN.{length, getD, length-append}
 use Rattle.notation.specs.Choice.{choose}
 use Rattle.notation.specs.Lists.{tab, gather, lookup}
-use Rattle.rules.specs.Block.{processCount}
-use Rattle.rules.specs.Space.{Data, trackerPage, processList, blockCopy}
+use Rattle.rules.specs.Block.{processCount, sectionsOf, sectionRecord, pageCount}
+use Rattle.rules.specs.Space.{Data, sectionPage, trackerPage, processList, blockCopy}
 use Rattle.rules.specs.Order.{Use, top, holds, rootTable, leafTable, sectionUses, hasLeaf, tableUses, order, uses, trackerPages, pagesNeeded, useOf}
+use Rattle.rules.specs.Contents.{sectionPageByte, dataByte}
 use Rattle.rules.specs.Load.{pageByte, loaded}
 use Rattle.laws.specs.Choice.{by-choose}
 use Rattle.laws.specs.Lists.{Every, every-at, every-append, every-tab, every-gather, tab-length, tab-by, lookup-right, lookup-inside}
 use Rattle.placement.specs.Uses.{use-top}
-use Rattle.writing.specs.Uses.{writeUses, write-length, write-above, afterUse, write-byte}
+use Rattle.writing.specs.Uses.{writeUses, write-length, write-above, afterUse, write-byte, write-same}
 
 -- byte o of the page of a use that is written
 unfoldable pub content : List ℕ → List ℕ → ℕ → ℕ → Use → ℕ → ℕ
@@ -101,3 +102,38 @@ written-is-loaded b flash start ram whole enough =
           ∙ after-use b flash (start / 4096) N us (below-top-written b (trackerPages b N)) _ _ _ _ refl ∙ rw (use-below b N (x / 4096) g)
       | no g ↦ write-above c ram (N - 4) us x (omega arith) h (omega arith) ∙ rw (use-top b N (x / 4096) (omega arith) (omega arith))
     ])
+
+-- SECTIONS
+-- the pages of section j of process q
+unfoldable pub sectionPages : List ℕ → ℕ → ℕ → List Use
+sectionPages b q j = tab (pageCount b (sectionRecord b q j)) (λ i. holds (sectionPage q j i))
+
+pub section-uses-pages : (b : List ℕ) (q : ℕ) → sectionUses b q ≡ gather (sectionsOf b q) (sectionPages b q)
+unfolding sectionUses sectionPages
+section-uses-pages b q = refl
+
+pub section-pages-length : (b : List ℕ) (q j : ℕ) → length (sectionPages b q j) ≡ pageCount b (sectionRecord b q j)
+unfolding sectionPages
+section-pages-length b q j = tab-length _ _
+
+-- the bytes of a section's page depend on no board
+unfoldable pub sectionContent : List ℕ → List ℕ → Use → ℕ → ℕ
+sectionContent b flash = content b flash 0 0
+
+pub section-content : (b flash : List ℕ) (q j i o : ℕ) → sectionContent b flash (holds (sectionPage q j i)) o ≡ sectionPageByte b flash (sectionRecord b q j) i o
+unfolding sectionContent content pageByte dataByte
+section-content b flash q j i o = refl
+
+-- all sections: those of process 2, 3 and so on, then the kernel's
+unfoldable pub allSections : List ℕ → List Use
+allSections b = gather (processCount b - 1) (λ i. sectionUses b (i + 2)) ++ sectionUses b 1
+
+same-bytes : (b flash : List ℕ) (base N q : ℕ) → Every (λ u. (o : ℕ) → o < 4096 → sectionContent b flash u o ≡ content b flash base N u o) (sectionUses b q)
+unfolding sectionUses sectionContent content pageByte dataByte
+same-bytes b flash base N q = every-gather _ _ _ (λ j _. every-tab _ _ _ (λ i _ o _. refl))
+
+pub write-sections : (b flash : List ℕ) (base N : ℕ) (r : List ℕ) (n : ℕ)
+    → writeUses (sectionContent b flash) r n (allSections b) ≡ writeUses (content b flash base N) r n (allSections b)
+unfolding allSections
+write-sections b flash base N r n =
+    write-same _ _ r n _ (every-append _ (gather _ _) _ (every-gather _ _ _ (λ i _. same-bytes b flash base N (i + 2))) (same-bytes b flash base N 1))

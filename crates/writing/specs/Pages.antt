@@ -2,7 +2,7 @@
 use mathlib.Core.Path.{_≡_, refl, sym, ap, _∙_}
 use mathlib.Core.Logic.{_≢_}
 use mathlib.Core.List.{List, _++_}
-use Prim.Native.Nat.{ℕ, _+_, _-_, _*_, _/_, _%_, _≤_, _<_}
+use Prim.Native.Nat.{ℕ, _+_, _-_, _*_, _/_, _%_, _≤_, _<_, min}
 use native.Mathlib.Decide.{decLt}
 use native.Mathlib.Omega.{arith}
 use lib.ListN.{length, getD, take, drop, length-append, length-take, length-drop, List·getD-append}
@@ -35,29 +35,27 @@ pub put-same : (r : List ℕ) (k : ℕ) (f g : ℕ → ℕ) → ((o : ℕ) → o
 unfolding put
 put-same r k f g h = tab-same _ _ _ 0 (λ x _. rw (h (x % 4096) (omega arith)))
 
--- page k, lent as a part of RAM, comes back with the bytes f
-pub put-part : (r p : List ℕ) (k : ℕ) (f : ℕ → ℕ) → k * 4096 + 4096 ≤ length r
-    → p ≡ tab (length (midOf (k * 4096) (k * 4096 + 4096 - k * 4096) r)) f
-    → putMid (k * 4096) (k * 4096 + 4096 - k * 4096) r p ≡ put r k f
+-- page k, as far as RAM has it, lent from a to e, comes back with the bytes f
+pub put-part : (r p : List ℕ) (k a e : ℕ) (f : ℕ → ℕ) → a ≡ min (k * 4096) (length r) → e ≡ min (a + 4096) (length r)
+    → p ≡ tab (length (midOf a (e - a) r)) f
+    → putMid a (e - a) r p ≡ put r k f
 unfolding put
-put-part r p k f fits e =
-    let m : length (midOf (k * 4096) (k * 4096 + 4096 - k * 4096) r) ≡ 4096 = mid-len (k * 4096) (k * 4096 + 4096) r fits ∙ omega arith in
-    let n : length p ≡ 4096 = ap length e ∙ tab-length _ f ∙ m in
-    let t : length (take (k * 4096) r) ≡ k * 4096 = length-take-le (k * 4096) r (omega arith) in
-    let q : putMid (k * 4096) (k * 4096 + 4096 - k * 4096) r p ≡ take (k * 4096) r ++ (p ++ drop (k * 4096 + 4096) r) = rw (post-is (k * 4096) (k * 4096 + 4096) r (omega arith)) in
-    q ∙ tab-by (length r) _ 0 _ (simp (length-append, length-drop) (omega arith)) (λ x h. elim (decLt x (k * 4096)) [
-      | yes l ↦
-          List·getD-append (take (k * 4096) r) _ 0 x (omega arith) ∙ getD-take (k * 4096) r x 0 l
+put-part r p k a e f ea ee ep =
+    let m : length (midOf a (e - a) r) ≡ e - a = mid-len a e r (omega arith) in
+    let n : length p ≡ e - a = ap length ep ∙ tab-length _ f ∙ m in
+    let t : length (take a r) ≡ a = length-take-le a r (omega arith) in
+    let q : putMid a (e - a) r p ≡ take a r ++ (p ++ drop e r) = rw (post-is a e r (omega arith)) in
+    q ∙ tab-by (length r) _ 0 _ (simp (length-append, length-drop) (omega arith)) (λ x h. elim (decLt x a)
+      [ yes l ↦
+          List·getD-append (take a r) _ 0 x (omega arith) ∙ getD-take a r x 0 l
           ∙ sym (choose-no _ _ (ne-eqb (x / 4096) k (λ z. omega arith)))
-      | no l ↦ append-get-right (take (k * 4096) r) _ (k * 4096) x 0 t (omega arith) ∙ elim (decLt x (k * 4096 + 4096)) [
-        | yes g ↦
-            let w : x - k * 4096 < length p = omega arith in
-            let s : x - k * 4096 ≡ x % 4096 = omega arith in
-            List·getD-append p _ 0 (x - k * 4096) w ∙ rw (e, s) (tab-get _ f (x % 4096) 0 (omega arith))
+      | no l ↦ append-get-right (take a r) _ a x 0 t (omega arith) ∙ elim (decLt x e)
+        [ yes g ↦
+            let w : x - a < length p = omega arith in
+            let s : x - a ≡ x % 4096 = omega arith in
+            List·getD-append p _ 0 (x - a) w ∙ rw (ep, s) (tab-get _ f (x % 4096) 0 (omega arith))
             ∙ sym (choose-yes _ _ (eq-eqb (x / 4096) k (omega arith)))
         | no g ↦
-            let s : k * 4096 + 4096 + (x - k * 4096 - 4096) ≡ x = omega arith in
-            append-get-right p _ 4096 (x - k * 4096) 0 n (omega arith) ∙ getD-drop (k * 4096 + 4096) r _ 0 ∙ rw s
-            (sym (choose-no _ _ (ne-eqb (x / 4096) k (λ z. omega arith))))
-      ]
-    ])
+            let s : e + (x - a - (e - a)) ≡ x = omega arith in
+            append-get-right p _ (e - a) (x - a) 0 n (omega arith) ∙ getD-drop e r _ 0 ∙ rw s
+            (sym (choose-no _ _ (ne-eqb (x / 4096) k (λ z. omega arith)))) ] ])

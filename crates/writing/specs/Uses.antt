@@ -6,10 +6,11 @@ use Prim.Native.Nat.{ℕ, zero, suc, _+_, _-_, _*_, _/_, _%_, _≤_, _<_}
 use native.Mathlib.Nat.{not-suc-le-zero}
 use native.Mathlib.Decide.{ℕ-discrete}
 use native.Mathlib.Omega.{arith}
-use lib.ListN.{length, getD}
-use Rattle.notation.specs.Lists.{lookup}
+use lib.ListN.{length, getD, length-append}
+use Rattle.notation.specs.Lists.{tab, lookup}
 use Rattle.rules.specs.Order.{Use}
-use Rattle.writing.specs.Pages.{put, put-length, put-in, put-out}
+use Rattle.laws.specs.Lists.{Every, tab-length, tab-next}
+use Rattle.writing.specs.Pages.{put, put-length, put-in, put-out, put-same}
 
 -- the uses go into RAM pages n - 1, n - 2 and so on; `byte u` gives the bytes of a use
 unfoldable pub writeUses : (Use → ℕ → ℕ) → List ℕ → ℕ → List Use → List ℕ
@@ -37,6 +38,13 @@ module _ (c : Use → ℕ → ℕ) where
   write-append r n (u ∷ us) vs =
       let e : n - 1 - length us ≡ n - suc (length us) = omega arith in
       rw e at (write-append (put r (n - 1) (c u)) (n - 1) us vs)
+
+  -- the uses of a rule, one more
+  pub write-tab-next : (r : List ℕ) (n i : ℕ) (f : ℕ → Use)
+      → writeUses c r n (tab (suc i) f) ≡ put (writeUses c r n (tab i f)) (n - i - 1) (c (f i))
+  write-tab-next r n i f =
+      let l : length (tab i f) ≡ i = tab-length i f in
+      rw tab-next (write-append r n (tab i f) (f i ∷ []) ∙ rw l (write-one (writeUses c r n (tab i f)) (n - i) (f i)))
 
   -- pages above those written keep their bytes
   pub write-above : (r : List ℕ) (n : ℕ) (us : List Use) (x : ℕ) → length us ≤ n → x < length r → n ≤ x / 4096
@@ -66,3 +74,33 @@ module _ (c : Use → ℕ → ℕ) where
         rw z (write-byte (put r (n - 1) (c u)) (n - 1) us x (omega arith) (rw put-length h) (omega arith)
         ∙ rw (put-out r (n - 1) (c u) x h e))
   ]
+
+-- uses with the same bytes
+pub write-same : (c c′ : Use → ℕ → ℕ) (r : List ℕ) (n : ℕ) (us : List Use) → Every (λ u. (o : ℕ) → o < 4096 → c u o ≡ c′ u o) us
+    → writeUses c r n us ≡ writeUses c′ r n us
+unfolding writeUses
+write-same c c′ r n [] e = refl
+write-same c c′ r n (u ∷ us) e = rw (put-same r (n - 1) (c u) (c′ u) (e .0)) (write-same c c′ _ (n - 1) us (e .1))
+
+-- RAM r₀ with n₀ pages left became r with n pages left when these uses were written
+pub record Wrote (c : Use → ℕ → ℕ) (us : List Use) (r₀ : List ℕ) (n₀ : ℕ) (r : List ℕ) (n : ℕ) : Type 0 where
+  pub long : length r ≡ length r₀
+  pub left : n ≡ n₀ - length us
+  pub bytes : r ≡ writeUses c r₀ n₀ us
+
+pub wrote-none : (c : Use → ℕ → ℕ) (r : List ℕ) (n : ℕ) → Wrote c [] r n r n
+unfolding writeUses
+wrote-none c r n = record { long = refl; left = omega arith; bytes = refl }
+
+-- and then some more
+pub wrote-more : {c : Use → ℕ → ℕ} {us : List Use} (vs : List Use) {r₀ : List ℕ} {n₀ : ℕ} {r : List ℕ} {n : ℕ} {r′ : List ℕ} {n′ : ℕ}
+    → Wrote c us r₀ n₀ r n → n′ ≡ n - length vs → r′ ≡ writeUses c r n vs → Wrote c (us ++ vs) r₀ n₀ r′ n′
+wrote-more {c} {us} vs {r₀} {n₀} {r} {n} w l e = record
+    { long = ap length e ∙ write-length c r n vs ∙ w .long
+    ; left = simp length-append (omega (arith, w .left))
+    ; bytes = e ∙ rw (w .left, w .bytes) (sym (write-append c r₀ n₀ us vs)) }
+
+-- and then one page more
+pub wrote-page : {c : Use → ℕ → ℕ} {us : List Use} (u : Use) {r₀ : List ℕ} {n₀ : ℕ} {r : List ℕ} {n : ℕ} {r′ : List ℕ} {n′ k : ℕ} (f : ℕ → ℕ)
+    → Wrote c us r₀ n₀ r n → n′ ≡ n - 1 → k ≡ n - 1 → r′ ≡ put r k f → ((o : ℕ) → o < 4096 → f o ≡ c u o) → Wrote c (us ++ (u ∷ [])) r₀ n₀ r′ n′
+wrote-page {c} u {r = r} {n = n} f w l k e s = wrote-more (u ∷ []) w l (e ∙ rw k (put-same r (n - 1) f (c u) s ∙ sym (write-one c r n u)))
