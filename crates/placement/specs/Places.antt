@@ -15,7 +15,7 @@ use Rattle.rules.specs.Space.{Data, sectionPage, trackerPage, processList, bloc
 use Rattle.rules.specs.Order.{Use, top, holds, rootTable, leafTable, sectionUses, hasLeaf, tableUses, order, uses, trackerPages, pagesNeeded, sameUse, ramPage}
 use Rattle.laws.specs.Choice.{by-choose, choose-yes, choose-no}
 use Rattle.laws.specs.Lists.{every-tab, every-gather, Absent, FirstAt, first-at-cast, first-at-here, first-at-there, first-at-left, first-at-right, first-at-tab, first-at-gather, tab-length}
-use Rattle.laws.specs.Counts.{one, sum-same, gather-length, one-length}
+use Rattle.laws.specs.Counts.{one, sum-none, sum-next, sum-same, gather-length, one-length}
 use Rattle.placement.specs.Uses.{same-use-refl, same-use-not}
 
 -- the pages of the first n sections of process q, and of all
@@ -50,6 +50,39 @@ tablesBefore b n = sum n (λ i. tableCount b (i + 1))
 -- the place of process q's root table
 unfoldable pub rootPlace : List ℕ → ℕ → ℕ → ℕ
 rootPlace b T q = trackerPlace b + T + 2 + tablesBefore b (q - 1)
+
+-- ONE MORE
+pub pages-before-none : (b : List ℕ) (q : ℕ) → pagesBefore b q 0 ≡ 0
+unfolding pagesBefore
+pages-before-none b q = sum-none _
+
+pub pages-before-next : (b : List ℕ) (q j : ℕ) → pagesBefore b q (j + 1) ≡ pagesBefore b q j + pageCount b (sectionRecord b q j)
+unfolding pagesBefore
+pages-before-next b q j = sum-next j _
+
+pub user-pages-none : (b : List ℕ) → userPages b 0 ≡ 0
+unfolding userPages
+user-pages-none b = sum-none _
+
+pub user-pages-next : (b : List ℕ) (i : ℕ) → userPages b (i + 1) ≡ userPages b i + processPages b (i + 2)
+unfolding userPages
+user-pages-next b i = sum-next i _
+
+pub leaves-below-none : (b : List ℕ) (q : ℕ) → leavesBelow b q 0 ≡ 0
+unfolding leavesBelow
+leaves-below-none b q = sum-none _
+
+pub leaves-below-next : (b : List ℕ) (q m : ℕ) → leavesBelow b q (m + 1) ≡ leavesBelow b q m + one (hasLeaf b q m)
+unfolding leavesBelow
+leaves-below-next b q m = sum-next m _
+
+pub tables-before-none : (b : List ℕ) → tablesBefore b 0 ≡ 0
+unfolding tablesBefore
+tables-before-none b = sum-none _
+
+pub tables-before-next : (b : List ℕ) (i : ℕ) → tablesBefore b (i + 1) ≡ tablesBefore b i + tableCount b (i + 1)
+unfolding tablesBefore
+tables-before-next b i = sum-next i _
 
 -- LENGTHS
 pub section-uses-length : (b : List ℕ) (q : ℕ) → length (sectionUses b q) ≡ processPages b q

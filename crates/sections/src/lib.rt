@@ -22,7 +22,14 @@ pub fn load_page(ram: &mut [u8], k: RamPage, block: &[u8], flash: &[u8], n: usiz
 }
 
 // Section j, counted from 0, of process q.
-pub fn load_section(ram: &mut [u8], block: &[u8], flash: &[u8], q: u32, j: u32, from: PageAllocator) -> PageAllocator
+pub fn load_section(
+    ram: &mut [u8],
+    block: &[u8],
+    flash: &[u8],
+    q: u32,
+    j: u32,
+    from: PageAllocator,
+) -> PageAllocator
     ensures { λ r. ⌜ (r .left ≡ from .left - length (sectionPages (now (block .entry)) q j))
         × (now (ram .exit) ≡ writeUses (sectionContent (now (block .entry)) (now (flash .entry))) (now (ram .entry)) (from .left) (sectionPages (now (block .entry)) q j)) ⌝ }
 {
@@ -42,7 +49,13 @@ pub fn load_section(ram: &mut [u8], block: &[u8], flash: &[u8], q: u32, j: u32, 
 }
 
 // All sections of process q.
-pub fn load_process(ram: &mut [u8], block: &[u8], flash: &[u8], q: u32, from: PageAllocator) -> PageAllocator
+pub fn load_process(
+    ram: &mut [u8],
+    block: &[u8],
+    flash: &[u8],
+    q: u32,
+    from: PageAllocator,
+) -> PageAllocator
     ensures { λ r. ⌜ (r .left ≡ from .left - length (sectionUses (now (block .entry)) q))
         × (now (ram .exit) ≡ writeUses (sectionContent (now (block .entry)) (now (flash .entry))) (now (ram .entry)) (from .left) (sectionUses (now (block .entry)) q)) ⌝ }
 {
@@ -58,7 +71,12 @@ pub fn load_process(ram: &mut [u8], block: &[u8], flash: &[u8], q: u32, from: Pa
 }
 
 // All sections of all processes: of process 2, 3 and so on, then the kernel's.
-pub fn load_sections(ram: &mut [u8], block: &[u8], flash: &[u8], from: PageAllocator) -> PageAllocator
+pub fn load_sections(
+    ram: &mut [u8],
+    block: &[u8],
+    flash: &[u8],
+    from: PageAllocator,
+) -> PageAllocator
     ensures { λ r. ⌜ (r .left ≡ from .left - length (allSections (now (block .entry))))
         × (now (ram .exit) ≡ writeUses (sectionContent (now (block .entry)) (now (flash .entry))) (now (ram .entry)) (from .left) (allSections (now (block .entry)))) ⌝ }
 {

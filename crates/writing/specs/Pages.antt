@@ -45,12 +45,12 @@ put-part r p k a e f ea ee ep =
     let n : length p ≡ e - a = ap length ep ∙ tab-length _ f ∙ m in
     let t : length (take a r) ≡ a = length-take-le a r (omega arith) in
     let q : putMid a (e - a) r p ≡ take a r ++ (p ++ drop e r) = rw (post-is a e r (omega arith)) in
-    q ∙ tab-by (length r) _ 0 _ (simp (length-append, length-drop) (omega arith)) (λ x h. elim (decLt x a)
-      [ yes l ↦
+    q ∙ tab-by (length r) _ 0 _ (simp (length-append, length-drop) (omega arith)) (λ x h. elim (decLt x a) [
+      | yes l ↦
           List·getD-append (take a r) _ 0 x (omega arith) ∙ getD-take a r x 0 l
           ∙ sym (choose-no _ _ (ne-eqb (x / 4096) k (λ z. omega arith)))
-      | no l ↦ append-get-right (take a r) _ a x 0 t (omega arith) ∙ elim (decLt x e)
-        [ yes g ↦
+      | no l ↦ append-get-right (take a r) _ a x 0 t (omega arith) ∙ elim (decLt x e) [
+        | yes g ↦
             let w : x - a < length p = omega arith in
             let s : x - a ≡ x % 4096 = omega arith in
             List·getD-append p _ 0 (x - a) w ∙ rw (ep, s) (tab-get _ f (x % 4096) 0 (omega arith))
@@ -58,4 +58,6 @@ put-part r p k a e f ea ee ep =
         | no g ↦
             let s : e + (x - a - (e - a)) ≡ x = omega arith in
             append-get-right p _ (e - a) (x - a) 0 n (omega arith) ∙ getD-drop e r _ 0 ∙ rw s
-            (sym (choose-no _ _ (ne-eqb (x / 4096) k (λ z. omega arith)))) ] ])
+            (sym (choose-no _ _ (ne-eqb (x / 4096) k (λ z. omega arith))))
+      ]
+    ])

@@ -95,10 +95,11 @@ wrote-none c r n = record { long = refl; left = omega arith; bytes = refl }
 -- and then some more
 pub wrote-more : {c : Use → ℕ → ℕ} {us : List Use} (vs : List Use) {r₀ : List ℕ} {n₀ : ℕ} {r : List ℕ} {n : ℕ} {r′ : List ℕ} {n′ : ℕ}
     → Wrote c us r₀ n₀ r n → n′ ≡ n - length vs → r′ ≡ writeUses c r n vs → Wrote c (us ++ vs) r₀ n₀ r′ n′
-wrote-more {c} {us} vs {r₀} {n₀} {r} {n} w l e = record
-    { long = ap length e ∙ write-length c r n vs ∙ w .long
-    ; left = simp length-append (omega (arith, w .left))
-    ; bytes = e ∙ rw (w .left, w .bytes) (sym (write-append c r₀ n₀ us vs)) }
+wrote-more {c} {us} vs {r₀} {n₀} {r} {n} w l e = record {
+  long = ap length e ∙ write-length c r n vs ∙ w .long;
+  left = simp length-append (omega (arith, w .left));
+  bytes = e ∙ rw (w .left, w .bytes) (sym (write-append c r₀ n₀ us vs));
+}
 
 -- and then one page more
 pub wrote-page : {c : Use → ℕ → ℕ} {us : List Use} (u : Use) {r₀ : List ℕ} {n₀ : ℕ} {r : List ℕ} {n : ℕ} {r′ : List ℕ} {n′ k : ℕ} (f : ℕ → ℕ)

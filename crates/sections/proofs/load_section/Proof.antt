@@ -60,7 +60,7 @@ same-length : tie.Need-same-length Inv-loop μ-loop
 same-length c = search needs
 
 returns : tie.Need-returns Inv-loop μ-loop
-returns c = 
+returns c =
     section-end _ _ _ _ _ _ _ (c .before .loop .inv .1) (c .before .before .read-section .ensures .page-count)
     (omega (arith, c .before .before .before .before .read-process .ensures .first-section)) (omega arith)
 

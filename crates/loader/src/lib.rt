@@ -1,0 +1,3 @@
+// The loader.
+mod process_list;
+mod tracker;
