@@ -63,6 +63,10 @@ pub or-right : (a c : Bool) → (a || c) ≡ false → c ≡ false
 or-right true c e = cc
 or-right false c e = e
 
+pub or-none : (a : Bool) → a ≡ (a || false)
+or-none true = refl
+or-none false = refl
+
 pub choose-or : (a c : Bool) → choose a true c ≡ false → (a ≡ false) × (c ≡ false)
 unfolding choose
 choose-or true c e = (e, cc)
