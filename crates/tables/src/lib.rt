@@ -1,0 +1,97 @@
+// Page table entries, and writing them into a lent table. A table may have any length; root slot m's leaf table has the
+// entries of virtual pages 1,024 m on. An entry has 22 bits of page number, so a number is taken modulo 0x400000.
+ghost use mathlib.Core.Path.{_≡_};
+ghost use Prim.Native.Nat.{_%_, _≤_};
+ghost use lib.ListN.{set};
+ghost use Rattle.notation.specs.Choice.{choose};
+ghost use Rattle.rules.specs.Entries.{pointerEntry, pageEntry};
+ghost use Rattle.tables.specs.Filled.{sectionMapped, stackReserved, leavesPointed};
+use records::Section;
+use types::PhysPage;
+
+// The entry of a root table that points to the leaf table at `page`.
+pub fn pointer_entry(page: PhysPage) -> u32
+    ensures { λ r. ⌜ r ≡ pointerEntry (page .0 % 0x40_0000) ⌝ }
+{
+    1024 * (page.0 % 0x40_0000) + 1
+}
+
+// The weight of a flag that is set.
+fn flag(set: bool, weight: u32) -> u32
+    ensures { λ r. ⌜ (r ≡ choose set weight 0) × (r ≤ weight) ⌝ }
+{
+    if set { weight } else { 0 }
+}
+
+// The entry of a leaf table for the readable page `page`, with these rights.
+pub fn page_entry(page: PhysPage, write: bool, execute: bool, user: bool) -> u32
+    ensures { λ r. ⌜ r ≡ pageEntry (page .0 % 0x40_0000) write execute user ⌝ }
+{
+    1024 * (page.0 % 0x40_0000) + (3 + flag(write, 4) + flag(execute, 8) + flag(user, 16))
+}
+
+// Maps the pages of a section that lie in the leaf table for root slot `slot`. The section's first page is at physical
+// page `first`, each next one at the next lower page, or at page 0 once they run out.
+pub fn map_section(entries: &mut [u32], slot: u32, section: Section, first: PhysPage, user: bool)
+    ensures { λ _. ⌜ now (entries .exit) ≡ sectionMapped (now (entries .entry)) slot (section .«first_page») (section .«last_page») (first .0) (section .writable) (section .executable) user ⌝ }
+{
+    let base = 1024 * (slot as usize);
+    let from = section.first_page as usize;
+    let past = slices::minus(section.last_page as usize + 1, base);
+    let end = slices::least(past, entries.len());
+    let mut i = slices::minus(from, base);
+    while i < end {
+        let page = slices::minus(first.0 as usize, base + i - from) as u32;
+        entries[i] = page_entry(PhysPage(page), section.writable, section.executable, user);
+        i += 1;
+    }
+}
+
+// Writes one entry; past the table's end nothing changes.
+pub fn map_page(entries: &mut [u32], index: u32, entry: u32)
+    ensures { λ _. ⌜ now (entries .exit) ≡ set (now (entries .entry)) index entry ⌝ }
+{
+    let at = index as usize;
+    if at < entries.len() {
+        entries[at] = entry;
+    }
+}
+
+// Reserves a user process's stack pages that lie in the leaf table for root slot `slot`: of tables of 1,024 entries slot
+// 511's has all four, the last of its entries, and no other has any.
+pub fn reserve_stack(entries: &mut [u32], slot: u32)
+    ensures { λ _. ⌜ now (entries .exit) ≡ stackReserved (now (entries .entry)) slot ⌝ }
+{
+    let base = 1024 * (slot as usize);
+    let end = slices::least(slices::minus(0x8_0000, base), entries.len());
+    let mut i = slices::minus(0x7_FFFC, base);
+    while i < end {
+        entries[i] = 22;
+        i += 1;
+    }
+}
+
+// The pointer to `page` where the slot is marked, else the old entry.
+fn pointer_or(marked: bool, page: PhysPage, old: u32) -> u32
+    ensures { λ r. ⌜ r ≡ choose marked (pointerEntry (page .0 % 0x40_0000)) old ⌝ }
+{
+    if marked { pointer_entry(page) } else { old }
+}
+
+// Points a root table's marked slots (mark not 0) to their leaf tables. The first marked slot's leaf is at physical page
+// `first`, each next one's at the next lower page, or at page 0 once they run out. Slots without a mark keep
+// their entry.
+pub fn point_to_leaves(entries: &mut [u32], marks: &[u8], first: PhysPage)
+    ensures { λ _. ⌜ now (entries .exit) ≡ leavesPointed (now (entries .entry)) (now (marks .entry)) (first .0) ⌝ }
+{
+    let n = slices::least(entries.len(), marks.len());
+    let mut pointed: usize = 0;
+    let mut m = 0;
+    while m < n {
+        let page = slices::minus(first.0 as usize, pointed) as u32;
+        let marked = 0 < marks[m];
+        entries[m] = pointer_or(marked, PhysPage(page), entries[m]);
+        pointed += flag(marked, 1) as usize;
+        m += 1;
+    }
+}
