@@ -1,3 +1,3 @@
 // The loader.
-mod process_list;
-mod tracker;
+mod leaf_entries;
+mod table_pages;

@@ -15,7 +15,7 @@ use Rattle.notation.specs.Lists.{tab}
 use Rattle.laws.specs.Choice.{choose-yes, choose-no}
 use Rattle.laws.specs.Numbers.{leb-shift}
 use Rattle.laws.specs.Lists.{tab-length, tab-get, tab-by, tab-same}
-use Rattle.rules.specs.Block.{address, size, flashOffset, noCopy}
+use Rattle.rules.specs.Block.{address, size, flashOffset}
 use Rattle.rules.specs.Contents.{sectionPageByte}
 use Rattle.records.specs.declared.Section.{Section}
 use Rattle.records.specs.Read.{IsSection}

@@ -32,7 +32,7 @@ impl PageAllocator {
 }
 
 // Page i of section record n: the section's bytes in it, at the virtual address's sub-page offset, and zero around them.
-// Bytes past the end of flash count as 0.
+// With NOCOPY all of it is zero. Bytes past the end of flash count as 0.
 pub fn section_page(page: &mut [u8], block: &[u8], flash: &[u8], n: usize, i: u32)
     ensures { λ _. ⌜ now (page .exit) ≡ tab (length (now (page .entry))) (sectionPageByte (now (block .entry)) (now (flash .entry)) n i) ⌝ }
 {
@@ -44,7 +44,7 @@ pub fn section_page(page: &mut [u8], block: &[u8], flash: &[u8], n: usize, i: u3
     let offset = section.address as usize % 4096;
     let first = 4096 * (i as usize);
     let bytes = slices::part(flash, section.flash_offset as usize, section.size as usize);
-    // The first page starts before the section's bytes, a later one within them.
+    // In the first page the copy starts at the offset; in a later one it skips the bytes of the pages before.
     let rest = slices::tail(bytes, slices::minus(first, offset));
     slices::copy_in(page, slices::minus(offset, first), rest);
 }

@@ -46,15 +46,16 @@ filling-is {a = a} {i = i} {d₀ = d₀} base lo hi p h ea eb er = let u = p .fr
   high = λ k m l. rw (le-leb lo (base + k) (omega arith), lt-leb (base + k) hi (omega arith));
 })
 
--- POINTING: the slots below m are done, of which `pointed` are marked
--- entry m of the root table
-abbrev pub rootEntry : List ℕ → List ℕ → ℕ → ℕ → ℕ
-rootEntry e marks first m = choose (marked marks m) (pointerEntry ((first - markedBelow marks m) % 0x40_0000)) (getD e m 0)
+-- POINTING
+-- entry m of the root table, with its marked slots pointed to leaf tables
+abbrev pub slotEntry : List ℕ → List ℕ → ℕ → ℕ → ℕ
+slotEntry e marks first m = choose (marked marks m) (pointerEntry ((first - markedBelow marks m) % 0x40_0000)) (getD e m 0)
 
+-- the slots below m are done, of which `pointed` are marked
 pub record Pointing (d₀ marks : List ℕ) (first : ℕ) (d : List ℕ) (pointed m : ℕ) : Type 0 where
   pub count : pointed ≡ markedBelow marks m
   pub few : pointed ≤ m
-  pub done : Written (rootEntry d₀ marks first) 0 m d₀ d
+  pub done : Written (slotEntry d₀ marks first) 0 m d₀ d
 
 pub pointing-none : (d marks : List ℕ) (first : ℕ) → Pointing d marks first d 0 0
 unfolding markedBelow

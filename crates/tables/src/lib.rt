@@ -78,9 +78,8 @@ fn pointer_or(marked: bool, page: PhysPage, old: u32) -> u32
     if marked { pointer_entry(page) } else { old }
 }
 
-// Points a root table's marked slots (mark not 0) to their leaf tables. The first marked slot's leaf is at physical page
-// `first`, each next one's at the next lower page, or at page 0 once they run out. Slots without a mark keep
-// their entry.
+// Points a root table's marked slots (mark not 0) to their leaf tables; the other slots keep their entry. The first
+// marked slot's leaf is at physical page `first`, each next one's at the next lower page, or at page 0 once they run out.
 pub fn point_to_leaves(entries: &mut [u32], marks: &[u8], first: PhysPage)
     ensures { λ _. ⌜ now (entries .exit) ≡ leavesPointed (now (entries .entry)) (now (marks .entry)) (first .0) ⌝ }
 {

@@ -1,0 +1,118 @@
+// Root and leaf tables: each is built as 1,024 entries, all absent at first, and stored as one page.
+ghost use mathlib.Core.List.{List};
+ghost use mathlib.Core.Path.{_≡_};
+ghost use mathlib.Core.Bool.{true};
+ghost use Prim.Native.Nat.{ℕ, _+_, _-_, _≤_, _<_};
+ghost use lib.ListN.{length, getD};
+ghost use Rattle.notation.specs.Lists.{tab, gather};
+ghost use Rattle.rules.specs.Block.{processCount};
+ghost use Rattle.rules.specs.Order.{hasLeaf, tableUses, trackerPages, leafTable};
+ghost use Rattle.rules.specs.Tables.{rootEntry};
+ghost use Rattle.rules.specs.Load.{physPage, tableByte};
+ghost use Rattle.placement.specs.Places.{rootPlace, leavesBelow, tableCount, tablesBefore};
+ghost use Rattle.leaves.specs.Marks.{leafMarks};
+ghost use Rattle.writing.specs.Pages.{put};
+ghost use Rattle.writing.specs.Uses.{writeUses};
+ghost use Rattle.writing.specs.Loaded.{content};
+ghost use Rattle.loader.specs.Fits.{Fits};
+ghost use Rattle.loader.specs.TablePages.{leafUses, LeavesAt};
+
+use crate::leaf_entries::leaf_entries;
+use pages::PageAllocator;
+use types::PhysPage;
+use types::RamPage;
+
+// Stores a table as RAM page k.
+fn store(ram: &mut [u8], k: RamPage, entries: &[u32])
+    requires { ⌜ length (now entries) ≡ 1024 ⌝ }
+    ensures { λ _. ⌜ now (ram .exit) ≡ put (now (ram .entry)) (k .0) (tableByte (λ i. getD (now (entries .entry)) i 0)) ⌝ }
+{
+    let from = slices::least(k.0 as usize * 4096, ram.len());
+    let to = slices::least(from + 4096, ram.len());
+    let page = &mut ram[from..to];
+    slices::words_in(page, entries);
+}
+
+// The root table of process q into RAM page k. Its leaf tables, for the marked root slots, lie from physical page `first`
+// downwards; the last entry points to the kernel's leaf table.
+fn load_root(ram: &mut [u8], k: RamPage, block: &[u8], base: u32, pages: u32, q: u32, marks: &[u8], first: PhysPage, kernel_leaf: PhysPage)
+    requires { ⌜ LeavesAt (now block) base pages q (first .0) («kernel_leaf» .0) × (now marks ≡ leafMarks (now block) q 1024) ⌝ }
+    ensures { λ _. ⌜ now (ram .exit) ≡ put (now (ram .entry)) (k .0) (tableByte (rootEntry (now (block .entry)) (physPage (now (block .entry)) base pages) q)) ⌝ }
+{
+    let mut entries = [0u32; 1024];
+    tables::point_to_leaves(&mut entries, marks, first);
+    tables::map_page(&mut entries, 1023, tables::pointer_entry(kernel_leaf));
+    store(ram, k, &entries);
+}
+
+// The leaf table of process q for root slot m into RAM page k.
+fn load_leaf(ram: &mut [u8], k: RamPage, block: &[u8], base: u32, pages: u32, q: u32, m: u32)
+    requires { ⌜ Fits (now block) base pages × (1 ≤ q) × (q ≤ processCount (now block)) × (m < 1024) × (hasLeaf (now block) q m ≡ true) ⌝ }
+    ensures { λ _. ⌜ ((flash : List ℕ) → now (ram .exit) ≡ put (now (ram .entry)) (k .0) (content (now (block .entry)) flash base pages (leafTable q m))) ⌝ }
+{
+    let mut entries = [0u32; 1024];
+    leaf_entries(&mut entries, block, base, pages, q, m);
+    store(ram, k, &entries);
+}
+
+// The leaf table for root slot m where it is marked, in the next page.
+fn load_marked(ram: &mut [u8], block: &[u8], base: u32, pages: u32, q: u32, m: u32, mark: u8, from: PageAllocator) -> PageAllocator
+    requires { ⌜ Fits (now block) base pages × (1 ≤ q) × (q ≤ processCount (now block)) × (m < 1024) × (mark ≡ getD (leafMarks (now block) q 1024) m 0) ⌝ }
+    ensures { λ r. ⌜ (r .left ≡ from .left - length (leafUses (now (block .entry)) q m))
+        × ((flash : List ℕ) → now (ram .exit) ≡ writeUses (content (now (block .entry)) flash base pages) (now (ram .entry)) (from .left) (leafUses (now (block .entry)) q m)) ⌝ }
+{
+    if mark == 0 {
+        return from;
+    }
+    let got = from.allocate();
+    load_leaf(ram, got.page, block, base, pages, q, m);
+    got.rest
+}
+
+// The leaf tables of process q, rising.
+fn load_leaves(ram: &mut [u8], block: &[u8], base: u32, pages: u32, q: u32, marks: &[u8], from: PageAllocator) -> PageAllocator
+    requires { ⌜ Fits (now block) base pages × (1 ≤ q) × (q ≤ processCount (now block)) × (now marks ≡ leafMarks (now block) q 1024) ⌝ }
+    ensures { λ r. ⌜ (r .left ≡ from .left - length (gather 1024 (leafUses (now (block .entry)) q)))
+        × ((flash : List ℕ) → now (ram .exit) ≡ writeUses (content (now (block .entry)) flash base pages) (now (ram .entry)) (from .left) (gather 1024 (leafUses (now (block .entry)) q))) ⌝ }
+{
+    let mut next = from;
+    let mut m: u32 = 0;
+    while m < 1024 {
+        let mark = slices::byte(marks, m as usize);
+        next = load_marked(ram, block, base, pages, q, m, mark, next);
+        m += 1;
+    }
+    next
+}
+
+// The tables of process q: its root, then its leaves.
+fn load_process_tables(ram: &mut [u8], block: &[u8], base: u32, pages: u32, q: u32, kernel_leaf: PhysPage, from: PageAllocator) -> PageAllocator
+    requires { ⌜ Fits (now block) base pages × (1 ≤ q) × (q ≤ processCount (now block)) × («kernel_leaf» .0 ≡ physPage (now block) base pages (leafTable 1 1023))
+        × (from .left ≡ pages - rootPlace (now block) (trackerPages (now block) pages) q) ⌝ }
+    ensures { λ r. ⌜ (r .left ≡ from .left - length (tableUses (now (block .entry)) q))
+        × ((flash : List ℕ) → now (ram .exit) ≡ writeUses (content (now (block .entry)) flash base pages) (now (ram .entry)) (from .left) (tableUses (now (block .entry)) q)) ⌝ }
+{
+    let mut marks = [0u8; 1024];
+    leaves::leaf_marks(block, q, &mut marks);
+    let got = from.allocate();
+    let first = PhysPage(base + from.left - 2);
+    load_root(ram, got.page, block, base, pages, q, &marks, first, kernel_leaf);
+    load_leaves(ram, block, base, pages, q, &marks, got.rest)
+}
+
+// The tables of all processes, the kernel's first.
+pub(crate) fn load_tables(ram: &mut [u8], block: &[u8], base: u32, pages: u32, from: PageAllocator) -> PageAllocator
+    requires { ⌜ Fits (now block) base pages × (from .left ≡ pages - rootPlace (now block) (trackerPages (now block) pages) 1) ⌝ }
+    ensures { λ r. ⌜ (r .left ≡ from .left - tablesBefore (now (block .entry)) (processCount (now (block .entry))))
+        × ((flash : List ℕ) → now (ram .exit) ≡ writeUses (content (now (block .entry)) flash base pages) (now (ram .entry)) (from .left) (gather (processCount (now (block .entry))) (λ i. tableUses (now (block .entry)) (i + 1)))) ⌝ }
+{
+    let kernel_leaf = PhysPage(base + from.left - 2);
+    let count = records::process_count(block);
+    let mut next = from;
+    let mut i: u32 = 0;
+    while i < count {
+        next = load_process_tables(ram, block, base, pages, i + 1, kernel_leaf, next);
+        i += 1;
+    }
+    next
+}
