@@ -79,11 +79,27 @@ module _ {A : Type 0} where
   lookup-right [] m i = rw zero-add
   lookup-right (y ∷ l) m i = rw suc-add (lookup-right l m i)
 
+  -- inside there is an element
+  pub lookup-some : (l : List A) (i : ℕ) → i < length l → (x : A) × (lookup l i ≡ some x)
+  unfolding lookup
+  lookup-some [] i h = absurd (not-suc-le-zero h)
+  lookup-some (x ∷ l) zero h = (x, refl)
+  lookup-some (x ∷ l) (suc i) h = lookup-some l i (le-of-suc-le-suc h)
+
   pub lookup-tab : (n : ℕ) (f : ℕ → A) (i : ℕ) → i < n → lookup (tab n f) i ≡ some (f i)
   unfolding lookup tab
   lookup-tab zero f i h = absurd (not-suc-le-zero h)
   lookup-tab (suc n) f zero h = refl
   lookup-tab (suc n) f (suc i) h = lookup-tab n (λ k. f (suc k)) i (le-of-suc-le-suc h)
+
+  -- element i of list k of those gathered
+  pub lookup-gather : (n : ℕ) (f : ℕ → List A) (k i : ℕ) (x : A) → k < n → lookup (f k) i ≡ some x → lookup (gather n f) (length (gather k f) + i) ≡ some x
+  unfolding gather
+  lookup-gather zero f k i x h e = absurd (not-suc-le-zero h)
+  lookup-gather (suc n) f k i x h e = elim (decLt k n) [
+    | yes l ↦ lookup-left (gather n f) (f n) _ x (lookup-gather n f k i x l e)
+    | no l ↦ let z : k ≡ n = omega arith in rw z (lookup-right (gather n f) (f n) i ∙ (rw z at e))
+  ]
 
   -- OCCURS: x is an element of the list
   abbrev pub Occurs : List A → A → Type 0

@@ -1,1 +1,4 @@
+pub mod LeafEntries
+pub mod ProcessWords
 pub mod TablePages
+pub mod TrackerBytes

@@ -5,7 +5,7 @@ use mathlib.Core.Bool.{Bool, true, false}
 use mathlib.Core.List.{List, [], _∷_, _++_}
 use Prim.Native.Nat.{ℕ, zero, suc, _+_, _-_, _*_, _/_, _%_, _≤_, _<_, min}
 use native.Mathlib.Nat.{mod-eq-of-lt}
-use native.Mathlib.Decide.{ℕ-discrete}
+use native.Mathlib.Decide.{decLt, ℕ-discrete}
 use native.Mathlib.Numerals.{add-one}
 use native.Mathlib.Omega.{arith}
 use lib.ListN.{length, getD, set, length-set, replicate}
@@ -16,17 +16,17 @@ use borrow.Rule.Slice.PartMut.{putMid, midOf, mid-len}
 use Rattle.notation.specs.Choice.{choose}
 use Rattle.notation.specs.Lists.{tab, gather, sum}
 use Rattle.rules.specs.Block.{processCount}
-use Rattle.rules.specs.Order.{Use, rootTable, leafTable, hasLeaf, tableUses, trackerPages}
+use Rattle.rules.specs.Order.{Use, rootTable, leafTable, hasLeaf, tableUses, uses, trackerPages, pagesNeeded, ramPage}
 use Rattle.rules.specs.Entries.{pointerEntry, absentEntry}
 use Rattle.rules.specs.Tables.{rootEntry, leafEntry}
 use Rattle.rules.specs.Load.{physPage, tableByte, pageByte}
 use Rattle.laws.specs.Choice.{by-test, by-choose, choose-yes, choose-no}
 use Rattle.laws.specs.Lists.{tab-length, tab-get, tab-same, tab-by}
-use Rattle.laws.specs.Counts.{one, one-yes, one-no, sum-same}
+use Rattle.laws.specs.Counts.{one, one-yes, one-no, sum-same, sum-zero}
 use Rattle.slices.specs.Writes.{withWords}
 use Rattle.leaves.specs.Marks.{leafMarks}
 use Rattle.tables.specs.Filled.{marked, markedBelow, leavesPointed}
-use Rattle.placement.specs.Places.{leavesBelow, rootPlace, tableCount, tablesBefore, place-leaf, place-root, ram-page-at, order-count, table-uses-length, tables-before-next}
+use Rattle.placement.specs.Places.{leavesBelow, rootPlace, tableCount, tablesBefore, place-leaf, place-root, ram-page-at, order-count, tables-length, tables-before-none}
 use Rattle.writing.specs.Pages.{put, put-part, put-same}
 use Rattle.writing.specs.Uses.{writeUses, Wrote, wrote-none, wrote-more}
 use Rattle.writing.specs.Loaded.{content}
@@ -152,3 +152,95 @@ root-page b base N q r marks e e₁ e₂ k first kernel pointer at em ez e1 ep e
           rw e2 (getD-set-other e₁ 1023 m pointer 0 z ∙ rw e1 (tab-get (length e) _ m 0 (omega arith)
           ∙ rw (em, marked-is b q m h, below-is b q m h, ez, tab-get {A = ℕ} 1024 (λ i. 0) m 0 h)
           (root-leaf b base N q first kernel m at h ∙ sym (choose-no _ _ (ne-eqb m 1023 z))))) ])
+
+-- ROOM FOR THE TABLES
+sum-at : (n k : ℕ) (f : ℕ → ℕ) → k < n → sum k f + f k ≤ sum n f
+unfolding sum
+sum-at zero k f h = absurd (omega arith)
+sum-at (suc n) k f h = elim (decLt k n)
+    [ yes l ↦ omega (arith, sum-at n k f l)
+    | no l ↦ let e : k ≡ n = omega arith in rw e (omega arith) ]
+
+leaf-below : (b : List ℕ) (q m : ℕ) → m < 1024 → hasLeaf b q m ≡ true → leavesBelow b q m < leavesBelow b q 1024
+unfolding leavesBelow
+leaf-below b q m h e = omega (arith, sum-at 1024 m (λ k. one (hasLeaf b q k)) h, one-yes e)
+
+kernel-slot : (b : List ℕ) → hasLeaf b 1 1023 ≡ true
+unfolding hasLeaf choose
+kernel-slot b = refl
+
+stack-slot : (b : List ℕ) (q : ℕ) → q ≢ 1 → hasLeaf b q 511 ≡ true
+unfolding hasLeaf choose
+stack-slot b q n = rw (ne-eqb q 1 n)
+
+kernel-below : (b : List ℕ) → leavesBelow b 1 1023 ≡ 0
+unfolding leavesBelow hasLeaf choose
+kernel-below b = sum-zero 1023 _ (λ k h. one-no (ne-eqb k 1023 (λ e. omega arith)))
+
+-- the root and at least one leaf
+two-tables : (b : List ℕ) (q : ℕ) → 1 ≤ leavesBelow b q 1024
+two-tables b q = elim (ℕ-discrete q 1)
+    [ yes e ↦ rw e (omega (arith, leaf-below b 1 1023 (omega arith) (kernel-slot b)))
+    | no e ↦ omega (arith, leaf-below b q 511 (omega arith) (stack-slot b q e)) ]
+
+pub room : (b : List ℕ) (base N q : ℕ) → Fits b base N → 1 ≤ q → q ≤ processCount b → rootPlace b (trackerPages b N) q + tableCount b q ≤ N
+unfolding rootPlace tablesBefore pagesNeeded uses
+room b base N q f lo hi =
+    let s : q - 1 + 1 ≡ q = omega arith in
+    let t : sum (q - 1) (λ i. tableCount b (i + 1)) + tableCount b (q - 1 + 1) ≤ sum (processCount b) (λ i. tableCount b (i + 1))
+        = sum-at (processCount b) (q - 1) (λ i. tableCount b (i + 1)) (omega arith) in
+    let u : sum (q - 1) (λ i. tableCount b (i + 1)) + tableCount b q ≤ sum (processCount b) (λ i. tableCount b (i + 1)) = rw s at t in
+    omega (arith, f .enough, order-count b (trackerPages b N))
+
+pub room-for-two : (b : List ℕ) (base N q : ℕ) → Fits b base N → 1 ≤ q → q ≤ processCount b → rootPlace b (trackerPages b N) q + 2 ≤ N
+unfolding tableCount
+room-for-two b base N q f lo hi = omega (arith, room b base N q f lo hi, two-tables b q)
+
+leaf-phys : (b : List ℕ) (base N q m left : ℕ) → Fits b base N → 1 ≤ q → q ≤ processCount b → left ≡ N - rootPlace b (trackerPages b N) q
+    → m < 1024 → hasLeaf b q m ≡ true → physPage b base N (leafTable q m) ≡ base + left - 2 - leavesBelow b q m
+unfolding physPage tableCount
+leaf-phys b base N q m left f lo hi l h e =
+    let p : ramPage b N (leafTable q m) ≡ N - 1 - (rootPlace b (trackerPages b N) q + suc (leavesBelow b q m)) = ram-page-at b N _ _ (place-leaf b _ q m lo hi h e) in
+    rw p (away base N (rootPlace b (trackerPages b N) q) (leavesBelow b q m) left l (omega (arith, room b base N q f lo hi, leaf-below b q m h e)))
+  where
+    away : (base N p k left : ℕ) → left ≡ N - p → p + k + 2 ≤ N → base + (N - 1 - (p + suc k)) ≡ base + left - 2 - k
+    away base N p k left e h = omega arith
+
+phys-small : (b : List ℕ) (base N : ℕ) (u : Use) → Fits b base N → physPage b base N u < 0x40_0000
+unfolding physPage ramPage
+phys-small b base N u f = omega (arith, f .end)
+
+pub kernel-at : (b : List ℕ) (base N left : ℕ) → Fits b base N → left ≡ N - rootPlace b (trackerPages b N) 1
+    → base + left - 2 ≡ physPage b base N (leafTable 1 1023)
+kernel-at b base N left f l =
+    sym (leaf-phys b base N 1 1023 left f (omega arith) (f .some-process) l (omega arith) (kernel-slot b) ∙ rw (kernel-below b) (omega arith))
+
+pub leaves-at : (b : List ℕ) (base N q left kernel : ℕ) → Fits b base N → 1 ≤ q → q ≤ processCount b
+    → kernel ≡ physPage b base N (leafTable 1 1023) → left ≡ N - rootPlace b (trackerPages b N) q
+    → LeavesAt b base N q (base + left - 2) kernel
+leaves-at b base N q left kernel f lo hi k l = record
+    { leaf = λ m h e. leaf-phys b base N q m left f lo hi l h e
+    ; small = omega (arith, f .end)
+    ; kernel-leaf = k
+    ; kernel-small = rw k (phys-small b base N _ f) }
+
+-- THE TABLES OF ONE PROCESS
+pub process-tables : (b : List ℕ) (base N q : ℕ) (r₀ r₁ : List ℕ) (n₀ k : ℕ) {n₁ : ℕ} {r : List ℕ} {n : ℕ}
+    → k ≡ n₀ - 1 → n₁ ≡ n₀ - 1 → r₁ ≡ put r₀ k (tableByte (rootEntry b (physPage b base N) q))
+    → Left b base N (gather 1024 (leafUses b q)) r₁ n₁ r n → Left b base N (tableUses b q) r₀ n₀ r n
+unfolding tableUses leafUses writeUses content pageByte
+process-tables b base N q r₀ r₁ n₀ k e e₁ p l =
+    (omega (arith, l .0), λ flash. l .1 flash ∙ rw (p, e, e₁))
+
+-- THE TABLES OF ALL
+pub next-place : (b : List ℕ) (base N i : ℕ) {r₀ : List ℕ} {n₀ : ℕ} {r : List ℕ} {n : ℕ} → n₀ ≡ N - rootPlace b (trackerPages b N) 1
+    → Tables b base N (gather i (λ i. tableUses b (i + 1))) r₀ n₀ r n → n ≡ N - rootPlace b (trackerPages b N) (i + 1)
+unfolding rootPlace
+next-place b base N i e t =
+    let s : i + 1 - 1 ≡ i = omega arith in
+    rw s (omega (arith, t .left, tables-length b i, tables-before-none b))
+
+pub tables-all : (b : List ℕ) (base N i : ℕ) {r₀ : List ℕ} {n₀ : ℕ} {r : List ℕ} {n : ℕ} → i ≡ processCount b
+    → Tables b base N (gather i (λ i. tableUses b (i + 1))) r₀ n₀ r n
+    → (n ≡ n₀ - tablesBefore b (processCount b)) × ((flash : List ℕ) → r ≡ writeUses (content b flash base N) r₀ n₀ (gather (processCount b) (λ i. tableUses b (i + 1))))
+tables-all b base N i {n₀ = n₀} e t = rw (← e) (t .left ∙ ap (λ (x : ℕ). n₀ - x) (tables-length b i), λ flash. t .wrote flash .bytes)

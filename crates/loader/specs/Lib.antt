@@ -1,2 +1,4 @@
+pub mod Counted
 pub mod Fits
+pub mod LeafEntries
 pub mod TablePages

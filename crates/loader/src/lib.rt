@@ -1,3 +1,5 @@
 // The loader.
 mod leaf_entries;
+mod process_list;
 mod table_pages;
+mod tracker;

@@ -1,4 +1,34 @@
+use Rattle.loader.proofs.LeafEntries.{leaf-kernel, leaf-user}
+use borrow.Author.Needs.{needs}
 use Rattle.loader.proofs.leaf_entries.leaf_entries.Statement.{statement}
+use Rattle.loader.proofs.leaf_entries.leaf_entries.Tie as tie
+
+kernel-entries-requires : tie.Need-kernel-entries-requires
+kernel-entries-requires c κs = search needs
+
+same-length : tie.Need-same-length
+same-length c = search needs
+
+returns : tie.Need-returns
+returns c = leaf-kernel _ _ _ _ _ (c .before .before .before .before .if1 .taken) (c .before .before .kernel-entries .ensures)
+
+user-entries-requires : tie.Need-user-entries-requires
+user-entries-requires c κs = search needs
+
+same-length-2 : tie.Need-same-length-2
+same-length-2 c = search needs
+
+returns-2 : tie.Need-returns-2
+returns-2 c =
+    leaf-user _ _ _ _ _ (c .before .before .before .before .if1 .left) (c .before .before .before .before .before .before .before .pre .3) (c .before .before .user-entries .ensures)
 
 pub leaf-entries-spec : {M : Type 1} → statement M
-leaf-entries-spec = ?
+leaf-entries-spec =
+    tie.close
+    (tie.spec
+    kernel-entries-requires
+    same-length
+    returns
+    user-entries-requires
+    same-length-2
+    returns-2)

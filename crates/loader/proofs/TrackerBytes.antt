@@ -1,0 +1,238 @@
+-- The tracker's bytes: the owner of each RAM page by its place in the order, and what the fills leave.
+use mathlib.Core.Path.{_≡_, refl, sym, _∙_}
+use mathlib.Core.List.{List, [], _∷_, _++_}
+use mathlib.Core.Option.{some}
+use Prim.Native.Nat.{ℕ, _+_, _-_, _*_, _/_, _≤_, _<_}
+use native.Mathlib.Numerals.{add-one}
+use native.Mathlib.Decide.{decLt}
+use native.Mathlib.Omega.{arith}
+use lib.ListN.{length, getD, length-append, List·getD-append, List·getD-eq-default}
+use Rattle.notation.specs.Choice.{choose}
+use Rattle.notation.specs.Lists.{tab, gather, lookup}
+use Rattle.laws.specs.Choice.{by-choose}
+use Rattle.laws.specs.Lists.{Every, every-append, every-tab, every-gather, tab-length, tab-get, tab-by, tab-same, tab-next, append-get-right, lookup-some, lookup-left, lookup-right, lookup-outside, lookup-gather, every-at}
+use Rattle.laws.specs.Counts.{sum-le}
+use Rattle.rules.specs.Block.{processCount, regionCount, ioPagesOf, ioPages}
+use Rattle.rules.specs.Space.{trackerPage, processList, blockCopy}
+use Rattle.rules.specs.Order.{Use, top, holds, sectionUses, hasLeaf, tableUses, order, uses, trackerPages, pagesFor, pagesNeeded, useOf, dataOwner, useOwner, owner}
+use Rattle.rules.specs.Contents.{tracker, dataByte}
+use Rattle.rules.specs.Load.{pageByte}
+use Rattle.placement.specs.Places.{processPages, userPages, sectionPlace, trackerPlace, section-uses-length, user-uses-length, user-pages-next, order-count}
+use Rattle.writing.specs.Pages.{put}
+use Rattle.writing.specs.Uses.{writeUses, write-same, Wrote, wrote-page}
+use Rattle.writing.specs.Loaded.{content}
+use Rattle.pages.specs.Filled.{filled}
+use Rattle.slices.proofs.Written.{Written, between, chosen-written, written-same}
+use Rattle.loader.specs.Counted.{Counted}
+
+-- OWNERS BY PLACE
+-- place i of the list has a use of owner v
+record Owned (l : List Use) (i v : ℕ) : Type 0 where
+  element : Use
+  found : lookup l i ≡ some element
+  owned : useOwner element ≡ v
+
+owned-all : (l : List Use) (i v : ℕ) → Every (λ u. useOwner u ≡ v) l → i < length l → Owned l i v
+owned-all l i v e h = let x = lookup-some l i h in record { element = x .0; found = x .1; owned = every-at _ l i e (x .1) }
+
+owned-left : {l : List Use} (m : List Use) {i v : ℕ} → Owned l i v → Owned (l ++ m) i v
+owned-left {l} m {i} o = record { element = o .element; found = lookup-left l m i (o .element) (o .found); owned = o .owned }
+
+owned-right : (l : List Use) {m : List Use} {i v : ℕ} (n j : ℕ) → length l ≡ n → j ≡ n + i → Owned m i v → Owned (l ++ m) j v
+owned-right l {m} {i} n j e f o = record { element = o .element; found = rw (f, ← e) (lookup-right l m i ∙ o .found); owned = o .owned }
+
+owned-gather : (n : ℕ) (f : ℕ → List Use) (k : ℕ) {i v : ℕ} → k < n → Owned (f k) i v → Owned (gather n f) (length (gather k f) + i) v
+owned-gather n f k {i} h o = record { element = o .element; found = lookup-gather n f k i (o .element) h (o .found); owned = o .owned }
+
+module _ (b : List ℕ) where
+  -- v owns every use of the list
+  abbrev Owns : ℕ → List Use → Type 0
+  Owns v l = Every (λ u. useOwner u ≡ v) l
+
+  sections-owned : (q : ℕ) → Owns q (sectionUses b q)
+  unfolding sectionUses useOwner dataOwner
+  sections-owned q = every-gather _ _ _ (λ j _. every-tab _ _ _ (λ i _. refl))
+
+  tables-owned : (q : ℕ) → Owns 1 (tableUses b q)
+  unfolding tableUses useOwner
+  tables-owned q = (refl, every-gather _ 1024 _ (λ m _. by-choose (Owns 1) (hasLeaf b q m) _ _ (λ _. (refl, tt)) (λ _. tt)))
+
+  module _ (T : ℕ) where
+    -- what follows the users' sections
+    abbrev afterUsers : List Use
+    afterUsers =
+        sectionUses b 1
+        ++ (tab T (λ i. holds (trackerPage i))
+        ++ (holds processList
+        ∷ holds blockCopy
+        ∷ gather (processCount b) (λ i. tableUses b (i + 1))))
+
+    after-owned : Owns 1 afterUsers
+    unfolding useOwner dataOwner
+    after-owned =
+        every-append _ (sectionUses b 1) _ (sections-owned 1)
+        (every-append _ (tab T _) _ (every-tab _ T _ (λ i _. refl))
+        (refl, (refl, every-gather _ _ _ (λ i _. tables-owned (i + 1)))))
+
+    owned-top : (i : ℕ) → i < 4 → Owned (order b T) i 1
+    unfolding order useOwner
+    owned-top i h = owned-left _ (owned-all (tab 4 top) i 1 (every-tab _ 4 top (λ i _. refl)) (rw tab-length h))
+
+    -- section page i of process t + 2
+    owned-user : (t i : ℕ) → t < processCount b - 1 → i < processPages b (t + 2) → Owned (order b T) (4 + (userPages b t + i)) (t + 2)
+    unfolding order
+    owned-user t i h l =
+        owned-right (tab 4 top) 4 _ (tab-length 4 top) refl
+        (owned-left _ (rw (user-uses-length b t) at (owned-gather (processCount b - 1) (λ i. sectionUses b (i + 2)) t h
+        (owned-all (sectionUses b (t + 2)) i (t + 2) (sections-owned (t + 2)) (rw section-uses-length l)))))
+
+    owned-rest : (i : ℕ) → 4 + userPages b (processCount b - 1) ≤ i → i < length (order b T) → Owned (order b T) i 1
+    unfolding order
+    owned-rest i h l =
+        let u : ℕ = userPages b (processCount b - 1) in
+        let n : length (order b T) ≡ 4 + (u + length afterUsers) = simp (length-append, tab-length, user-uses-length) in
+        owned-right (tab 4 top) {i = u + (i - (4 + u))} 4 _ (tab-length 4 top) (omega arith)
+        (owned-right (gather _ _) u _ (user-uses-length b _) refl
+        (owned-all afterUsers (i - (4 + u)) 1 after-owned (omega arith)))
+
+-- BYTES
+-- byte k of the tracker for RAM of N pages
+abbrev pub trackerByte : List ℕ → ℕ → ℕ → ℕ
+trackerByte b N k = getD (tracker b N) k 0
+
+abbrev zeros : ℕ → List ℕ
+zeros n = tab n (λ k. 0)
+
+zero-byte : (n k : ℕ) → getD (zeros n) k 0 ≡ 0
+zero-byte n k = elim (decLt k n) [
+  | yes h ↦ tab-get n _ k 0 h
+  | no h ↦ List·getD-eq-default (zeros n) 0 {n = k} (rw tab-length (omega arith))
+]
+
+module _ (b : List ℕ) (N : ℕ) where
+  ram-byte : (k : ℕ) → k < N → trackerByte b N k ≡ owner (useOf b N k)
+  unfolding tracker
+  ram-byte k h = List·getD-append (tab N (λ k. owner (useOf b N k))) _ 0 k (rw tab-length h) ∙ tab-get N _ k 0 h
+
+  -- after RAM's pages
+  io-byte : (k : ℕ) → N ≤ k → trackerByte b N k ≡ 0
+  unfolding tracker
+  io-byte k h = append-get-right (tab N (λ k. owner (useOf b N k))) _ N k 0 (tab-length N _) h ∙ zero-byte (ioPages b) (k - N)
+
+  free-byte : (k : ℕ) → k < N - pagesNeeded b N → trackerByte b N k ≡ 0
+  unfolding useOf pagesNeeded owner
+  free-byte k h = ram-byte k (omega arith) ∙ rw (lookup-outside (uses b N) (N - 1 - k) (omega arith))
+
+  owner-byte : (k i v : ℕ) → k + i + 1 ≡ N → Owned (order b (trackerPages b N)) i v → trackerByte b N k ≡ v
+  unfolding useOf uses owner
+  owner-byte k i v e o =
+      let z : N - 1 - k ≡ i = omega arith in
+      ram-byte k (omega arith) ∙ rw (z, o .found) (o .owned)
+
+-- the section pages of user processes are among those needed
+pub users-fit : {b : List ℕ} {N needed : ℕ} (t : ℕ) → Counted b N needed → t ≤ processCount b - 1 → 4 + userPages b t ≤ needed
+unfolding pagesNeeded uses trackerPlace sectionPlace choose userPages
+users-fit {b} {N} t c h = omega (arith, c .needed-is, order-count b (trackerPages b N), sum-le t (processCount b - 1) (λ i. processPages b (i + 2)) h)
+
+pub user-fits : {b : List ℕ} {N needed count : ℕ} (t : ℕ) → Counted b N needed → t < processCount b - 1 → count ≡ processPages b (t + 2)
+    → 4 + userPages b t + count ≤ N
+user-fits {b} t c h e = omega (arith, users-fit (t + 1) c (omega arith), user-pages-next b t, c .enough)
+
+-- FILLS
+filled-written : (d : List ℕ) (from to v : ℕ) → from ≤ to → Written (λ k. v) from to d (filled d from to v)
+unfolding filled
+filled-written d from to v h = chosen-written (λ k. v) d (between (length d) from to h)
+
+-- one stretch, then the one below it
+written-below : {f : ℕ → ℕ} {a b c : ℕ} {d₀ d e : List ℕ} → Written f b c d₀ d → Written f a b d e → a ≤ b → b ≤ c → Written f a c d₀ e
+written-below {b = b} v w h l = record {
+  size = w .size ∙ v .size;
+  inside = λ k m n z. elim (decLt k b) [
+    | yes y ↦ w .inside k m y (omega (arith, v .size))
+    | no y ↦ w .above k (omega arith) ∙ v .inside k (omega arith) n z
+  ];
+  below = λ k m. w .below k m ∙ v .below k (omega arith);
+  above = λ k m. w .above k (omega arith) ∙ v .above k m;
+}
+
+-- the pages of one process more
+pub track-turn : {b : List ℕ} {N needed t start end count : ℕ} {d₀ d e : List ℕ} → Counted b N needed → t < processCount b - 1
+    → end ≡ N - 4 - userPages b t
+    → Written (trackerByte b N) end (N - 4) d₀ d
+    → count ≡ processPages b (t + 2)
+    → start ≡ end - count
+    → e ≡ filled d start end (t + 2)
+    → (start ≡ N - 4 - userPages b (t + 1)) × Written (trackerByte b N) start (N - 4) d₀ e
+track-turn {b} {N} {needed} {t} {start} {end} {count} {d = d} c h ee w ec es ed =
+    let u : userPages b (t + 1) ≡ userPages b t + count = rw ec (user-pages-next b t) in
+    let f : 4 + userPages b t + count ≤ N = user-fits t c h ec in (
+      omega arith,
+      written-below w (rw ed (written-same (filled-written d start end (t + 2) (omega arith)) (λ k l m.
+          let i : ℕ = end - 1 - k in
+          sym (owner-byte b N k (4 + (userPages b t + i)) (t + 2) (omega arith) (owned-user b (trackerPages b N) t i h (rw (← ec) (omega arith)))))))
+          (omega arith) (omega arith),
+    )
+
+pub track-end : {b : List ℕ} {N needed t end : ℕ} (m : ℕ) {d₀ d₁ d : List ℕ} → Counted b N needed
+    → d₀ ≡ zeros m
+    → d₁ ≡ filled d₀ (N - needed) N 1
+    → end ≡ N - 4 - userPages b t
+    → t ≡ processCount b - 1
+    → Written (trackerByte b N) end (N - 4) d₁ d
+    → d ≡ tab m (trackerByte b N)
+unfolding pagesNeeded uses
+track-end {b} {N} {needed} {t} {end} m {d₀} {d₁} {d} c e₀ e₁ ee et w =
+    let v : Written (λ k. 1) (N - needed) N d₀ d₁ = rw e₁ (filled-written d₀ (N - needed) N 1 (omega arith)) in
+    let n : length d₀ ≡ m = rw e₀ (tab-length m _) in
+    let z : (k : ℕ) → getD d₀ k 0 ≡ 0 = λ k. rw e₀ (zero-byte m k) in
+    let f : 4 + userPages b t ≤ needed = users-fit t c (omega arith) in
+    tab-by m _ 0 d (w .size ∙ v .size ∙ n) (λ k h. elim (decLt k end) [
+      | yes l ↦ w .below k l ∙ elim (decLt k (N - needed)) [
+        | yes g ↦ v .below k g ∙ z k ∙ sym (free-byte b N k (omega (arith, c .needed-is)))
+        | no g ↦ v .inside k (omega arith) (omega arith) (omega arith)
+            ∙ sym (owner-byte b N k (N - 1 - k) 1 (omega arith) (owned-rest b (trackerPages b N) (N - 1 - k) (rw (← et) (omega arith)) (omega (arith, c .needed-is, c .enough))))
+      ]
+      | no l ↦ elim (decLt k (N - 4)) [
+        | yes g ↦ w .inside k (omega arith) g (omega (arith, v .size))
+        | no g ↦ w .above k (omega arith) ∙ elim (decLt k N) [
+          | yes r ↦ v .inside k (omega arith) r (omega arith) ∙ sym (owner-byte b N k (N - 1 - k) 1 (omega arith) (owned-top b _ (N - 1 - k) (omega arith)))
+          | no r ↦ v .above k (omega arith) ∙ z k ∙ sym (io-byte b N k (omega arith))
+        ]
+      ]
+    ])
+
+-- PAGES
+-- page 0 has the bytes of RAM's pages
+pub first-page : (b : List ℕ) (N i m : ℕ) {d : List ℕ} → i ≡ 0 → d ≡ tab m (trackerByte b N) → d ≡ tab m (λ o. trackerByte b N (4096 * i + o))
+first-page b N i m z e = e ∙ tab-same m _ _ 0 (λ o _. let s : 4096 * i + o ≡ o = omega arith in rw s)
+
+pub later-page : (b : List ℕ) (N i m : ℕ) {d : List ℕ} → N ≤ 4096 → (i ≡ 0 → ⊥) → d ≡ zeros m → d ≡ tab m (λ o. trackerByte b N (4096 * i + o))
+later-page b N i m h n e = e ∙ tab-same m _ _ 0 (λ o _. sym (io-byte b N (4096 * i + o) (omega arith)))
+
+-- the tracker's pages are among those needed
+pub tracker-fits : {b : List ℕ} {N needed : ℕ} → Counted b N needed → trackerPages b N ≤ N
+unfolding pagesNeeded uses
+tracker-fits {b} {N} c = omega (arith, c .needed-is, c .enough, order-count b (trackerPages b N))
+
+pub count-is : (b : List ℕ) (N r io : ℕ) → r ≡ regionCount b → io ≡ ioPagesOf b r → (N + io + 4095) / 4096 ≡ trackerPages b N
+unfolding trackerPages pagesFor ioPages
+count-is b N r io er ei = rw (ei, er)
+
+abbrev pub trackerUses : ℕ → List Use
+trackerUses n = tab n (λ i. holds (trackerPage i))
+
+-- one page more
+pub page-turn : (b : List ℕ) (N i : ℕ) {r₀ : List ℕ} {n₀ : ℕ} {r : List ℕ} {n : ℕ} {r′ : List ℕ} {n′ k : ℕ}
+    → Wrote (content b [] 0 N) (trackerUses i) r₀ n₀ r n
+    → n′ ≡ n - 1 → k ≡ n - 1 → r′ ≡ put r k (λ o. trackerByte b N (4096 * i + o))
+    → Wrote (content b [] 0 N) (trackerUses (i + 1)) r₀ n₀ r′ n′
+unfolding content pageByte dataByte
+page-turn b N i w l k p = rw (add-one, tab-next) (wrote-page (holds (trackerPage i)) _ w l k p (λ o _. refl))
+
+-- the bytes depend on no flash and on no place of RAM
+pub tracker-end : (b : List ℕ) (N i : ℕ) {r₀ : List ℕ} {n₀ : ℕ} {r : List ℕ} {n : ℕ}
+    → Wrote (content b [] 0 N) (trackerUses i) r₀ n₀ r n → i ≡ trackerPages b N
+    → (n ≡ n₀ - trackerPages b N) × ((flash : List ℕ) (base : ℕ) → r ≡ writeUses (content b flash base N) r₀ n₀ (trackerUses (trackerPages b N)))
+unfolding content pageByte dataByte
+tracker-end b N i {r₀} {n₀} w e = rw (← e)
+    (omega (arith, w .left, tab-length i (λ i. holds (trackerPage i))), λ flash base. w .bytes ∙ write-same _ _ r₀ n₀ _ (every-tab _ i _ (λ j _ o _. refl)))

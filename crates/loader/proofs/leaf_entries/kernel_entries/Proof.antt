@@ -1,0 +1,92 @@
+use Rattle.loader.proofs.LeafEntries.{tracker-room, kernel-is}
+use native.Mathlib.Omega.{arith}
+use borrow.Author.Needs.{needs}
+use Rattle.loader.proofs.leaf_entries.kernel_entries.Statement.{statement}
+use Rattle.loader.proofs.leaf_entries.kernel_entries.Tie as tie
+
+tracker-place-requires : tie.Need-tracker-place-requires
+tracker-place-requires c κs = (omega arith, omega arith, omega (arith, tracker-room (c .before .before .pre .0)))
+
+tracker-pages-requires : tie.Need-tracker-pages-requires
+tracker-pages-requires c κs = omega (arith, tracker-room (c .before .before .before .pre .0))
+
+page-at-requires : tie.Need-page-at-requires
+page-at-requires c κs = (omega arith, omega (arith, tracker-room (c .before .before .before .before .pre .0)))
+
+add-page-at : tie.Need-add-page-at
+add-page-at c = omega (arith, tracker-room (c .before .before .before .before .before .pre .0))
+
+page-at-requires-2 : tie.Need-page-at-requires-2
+page-at-requires-2 c κs = (omega arith, omega (arith, tracker-room (c .before .before .before .before .before .pre .0)))
+
+add-page-at-2 : tie.Need-add-page-at-2
+add-page-at-2 c = omega (arith, tracker-room (c .before .before .before .before .before .before .pre .0))
+
+add-page-at-3 : tie.Need-add-page-at-3
+add-page-at-3 c = omega (arith, tracker-room (c .before .before .before .before .before .before .pre .0))
+
+page-at-requires-3 : tie.Need-page-at-requires-3
+page-at-requires-3 c κs = (omega arith, omega (arith, tracker-room (c .before .before .before .before .before .before .pre .0)))
+
+map-sections-requires : tie.Need-map-sections-requires
+map-sections-requires c κs = search needs
+
+page-entry-requires : tie.Need-page-entry-requires
+page-entry-requires c κs = search needs
+
+map-page-requires : tie.Need-map-page-requires
+map-page-requires c κs = search needs
+
+map-tracker-requires : tie.Need-map-tracker-requires
+map-tracker-requires c κs =
+    let sections = c .before .before .before .before .before .before .before .before in
+    let first = sections .before .before .before .before in
+    let fits = first .before .before .before .before .before .pre .0 in
+    (omega (arith, tracker-room fits), omega (arith, fits .end, tracker-room fits))
+
+page-entry-requires-2 : tie.Need-page-entry-requires-2
+page-entry-requires-2 c κs = search needs
+
+map-page-requires-2 : tie.Need-map-page-requires-2
+map-page-requires-2 c κs = search needs
+
+same-length : tie.Need-same-length
+same-length c = search needs
+
+returns : tie.Need-returns
+returns c =
+    let list = c .before .before in
+    let tracker = list .before .before .before .before .before in
+    let copy = tracker .before .before .before .before in
+    let sections = copy .before .before .before .before .before in
+    let places = sections .before .before in
+    let first = places .before .before in
+    let counts = first .before in
+    kernel-is (counts .before .before .before .before .pre .0) _ _ _ _ _ _ _ _ _ _ _
+    (counts .before .tracker-place .ensures) (counts .tracker-pages .ensures)
+    (first .page-at .ensures) (places .before .page-at2 .ensures) (places .page-at3 .ensures)
+    (sections .map-sections .ensures)
+    (copy .before .page-entry .ensures) (copy .map-page .ensures)
+    (tracker .map-tracker .ensures)
+    (list .before .page-entry2 .ensures) (list .map-page2 .ensures)
+
+pub kernel-entries-spec : {M : Type 1} → statement M
+kernel-entries-spec =
+    tie.close
+    (tie.spec
+    tracker-place-requires
+    tracker-pages-requires
+    page-at-requires
+    add-page-at
+    page-at-requires-2
+    add-page-at-2
+    add-page-at-3
+    page-at-requires-3
+    map-sections-requires
+    page-entry-requires
+    map-page-requires
+    map-tracker-requires
+    page-entry-requires-2
+    map-page-requires-2
+    same-length
+    returns)

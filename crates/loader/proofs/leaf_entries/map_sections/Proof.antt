@@ -1,0 +1,101 @@
+use mathlib.Core.Path.{_≡_, refl}
+use Prim.Native.Nat.{_-_, _≤_}
+use lib.ListN.{length}
+use Rattle.loader.proofs.LeafEntries.{process-room, Mapped, mapped-none, mapped-more, mapped-all}
+use native.Mathlib.Omega.{arith}
+use borrow.Author.Needs.{needs}
+use Rattle.loader.proofs.leaf_entries.map_sections.Statement.{statement}
+use Rattle.loader.proofs.leaf_entries.map_sections.Tie as tie
+
+abbrev Inv-loop : tie.InvT-loop
+Inv-loop entries₀ block base pages q m user first count place₀ j₀ entries place j =
+    (j ≤ count) × (length entries ≡ length entries₀) × Mapped block base pages q m user j place entries
+
+abbrev μ-loop : tie.MeasureT-loop
+μ-loop entries₀ block base pages q m user first count place₀ j₀ entries place j = count - j
+
+read-process-requires : tie.Need-read-process-requires Inv-loop μ-loop
+read-process-requires c κs = search needs
+
+section-place-requires : tie.Need-section-place-requires Inv-loop μ-loop
+section-place-requires c κs =
+    let pre = c .before .before .before .pre in
+    (pre .1, pre .2, omega arith, omega (arith, process-room (pre .0) _ (pre .1) (pre .2)))
+
+loop-holds : tie.Need-loop-holds Inv-loop μ-loop
+loop-holds c =
+    let pre = c .before .before .before .before .pre in
+    (search needs, refl, mapped-none (pre .0) _ _ _ (pre .1) (pre .2) (c .section-place .ensures) (pre .3))
+
+cast-read-section : tie.Need-cast-read-section Inv-loop μ-loop
+cast-read-section c = search needs
+
+cast-read-section-2 : tie.Need-cast-read-section-2 Inv-loop μ-loop
+cast-read-section-2 c = search needs
+
+add-read-section : tie.Need-add-read-section Inv-loop μ-loop
+add-read-section c = search needs
+
+read-section-requires : tie.Need-read-section-requires Inv-loop μ-loop
+read-section-requires c κs = search needs
+
+page-at-requires : tie.Need-page-at-requires Inv-loop μ-loop
+page-at-requires c κs = search needs
+
+map-section-requires : tie.Need-map-section-requires Inv-loop μ-loop
+map-section-requires c κs = search needs
+
+add-place : tie.Need-add-place Inv-loop μ-loop
+add-place c =
+    let read = c .before .before .before .before .before .before in
+    omega (arith, read .read-section .ensures .page-count-le, read .before .before .loop .inv .2 .room)
+
+add-j : tie.Need-add-j Inv-loop μ-loop
+add-j c =
+    let loop = c .before .before .before .before .before .before .before .before in
+    let ok = loop .before .before .read-process .ok in
+    omega arith
+
+loop-less : tie.Need-loop-less Inv-loop μ-loop
+loop-less c = search needs
+
+loop-again : tie.Need-loop-again Inv-loop μ-loop
+loop-again c =
+    let call = c .before .before .before in
+    let read = call .before .before .before in
+    let loop = read .before .before in
+    let process = loop .before .before .read-process .ensures in
+    let pre = loop .before .before .before .before .before .pre in (
+      omega arith,
+      omega arith,
+      mapped-more (loop .loop .inv .2) (pre .0) (pre .1) (pre .2) (process .first-section) (process .sections-of) (read .before .loop-test .taken)
+          (read .read-section .ensures) (call .before .page-at .ensures) (call .map-section .ensures),
+    )
+
+same-length : tie.Need-same-length Inv-loop μ-loop
+same-length c = search needs
+
+returns : tie.Need-returns Inv-loop μ-loop
+returns c = mapped-all (c .before .loop .inv .2) (omega (arith, c .before .before .before .read-process .ensures .sections-of))
+
+pub map-sections-spec : {M : Type 1} → statement M
+map-sections-spec =
+    tie.close
+    (tie.spec
+    Inv-loop
+    μ-loop
+    read-process-requires
+    section-place-requires
+    loop-holds
+    cast-read-section
+    cast-read-section-2
+    add-read-section
+    read-section-requires
+    page-at-requires
+    map-section-requires
+    add-place
+    add-j
+    loop-less
+    loop-again
+    same-length
+    returns)

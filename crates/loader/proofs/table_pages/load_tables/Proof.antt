@@ -1,0 +1,77 @@
+use Prim.Native.Nat.{_+_, _-_, _≤_}
+use Rattle.notation.specs.Lists.{gather}
+use Rattle.rules.specs.Order.{tableUses}
+use Rattle.loader.proofs.TablePages.{room-for-two, kernel-at, next-place, tables-all, Tables, tables-none, tables-next}
+use native.Mathlib.Omega.{arith}
+use borrow.Author.Needs.{needs}
+use Rattle.loader.proofs.table_pages.load_tables.Statement.{statement}
+use Rattle.loader.proofs.table_pages.load_tables.Tie as tie
+use Rattle.loader.proofs.table_pages.load_tables.Reads as reads
+use Rattle.loader.proofs.table_pages.load_tables.Lts as lts
+use Rattle.loader.proofs.table_pages.load_process_tables.Reads as load-process-tables-reads
+use Rattle.records.proofs.process_count.Reads as process-count-reads
+
+abbrev Inv-loop : tie.InvT-loop
+Inv-loop ram₀ block base pages kernel-leaf count next₀ i₀ ram next i = (i ≤ count) × Tables block base pages (gather i (λ i. tableUses block (i + 1))) ram₀ (next₀ .left) ram (next .left)
+
+abbrev μ-loop : tie.MeasureT-loop
+μ-loop ram₀ block base pages kernel-leaf count next₀ i₀ ram next i = count - i
+
+add-t10 : tie.Need-add-t10 Inv-loop μ-loop
+add-t10 c = omega (arith, c .before .before .before .pre .0 .end, c .before .before .before .pre .1)
+
+sub-t11 : tie.Need-sub-t11 Inv-loop μ-loop
+sub-t11 c =
+    let pre = c .before .before .before .pre in
+    omega (arith, room-for-two _ _ _ 1 (pre .0) (omega arith) (pre .0 .some-process), pre .1)
+
+process-count-requires : tie.Need-process-count-requires Inv-loop μ-loop
+process-count-requires c κs = search needs
+
+loop-holds : tie.Need-loop-holds Inv-loop μ-loop
+loop-holds c = (search needs, tables-none _ _ _ _ _ _)
+
+add-load-process-tables : tie.Need-add-load-process-tables Inv-loop μ-loop
+add-load-process-tables c = search needs
+
+load-process-tables-requires : tie.Need-load-process-tables-requires Inv-loop μ-loop
+load-process-tables-requires c κs =
+    let loop = c .before .before in
+    let pre = loop .before .before .before .before .before .pre in
+    (pre .0, search needs, omega (arith, c .before .loop-test .taken, loop .before .process-count .ensures), kernel-at _ _ _ _ (pre .0) (pre .1),
+    next-place _ _ _ _ (pre .1) (loop .loop .inv .1))
+
+add-i : tie.Need-add-i Inv-loop μ-loop
+add-i c = search needs
+
+loop-less : tie.Need-loop-less Inv-loop μ-loop
+loop-less c = search needs
+
+loop-again : tie.Need-loop-again Inv-loop μ-loop
+loop-again c =
+    let call = c .before .before in
+    (omega arith, tables-next _ _ _ _ (λ i. tableUses _ (i + 1)) (call .before .before .before .loop .inv .1) (call .load-process-tables .ensures))
+
+same-length : tie.Need-same-length Inv-loop μ-loop
+same-length c = search needs
+
+returns : tie.Need-returns Inv-loop μ-loop
+returns c = tables-all _ _ _ _ (omega (arith, c .before .before .process-count .ensures)) (c .before .loop .inv .1)
+
+pub load-tables-spec : {M : Type 1} → statement M
+load-tables-spec =
+    tie.close
+    (tie.spec
+    Inv-loop
+    μ-loop
+    add-t10
+    sub-t11
+    process-count-requires
+    loop-holds
+    add-load-process-tables
+    load-process-tables-requires
+    add-i
+    loop-less
+    loop-again
+    same-length
+    returns)

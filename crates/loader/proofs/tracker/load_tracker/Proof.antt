@@ -1,0 +1,62 @@
+use mathlib.Core.List.{[]}
+use Prim.Native.Nat.{_-_, _≤_}
+use Rattle.writing.specs.Uses.{Wrote}
+use Rattle.writing.specs.Loaded.{content}
+use Rattle.sections.proofs.Laws.{tab-none}
+use Rattle.loader.proofs.TrackerBytes.{trackerUses, page-turn, tracker-end}
+use native.Mathlib.Omega.{arith}
+use borrow.Author.Needs.{needs}
+use Rattle.loader.proofs.tracker.load_tracker.Statement.{statement}
+use Rattle.loader.proofs.tracker.load_tracker.Tie as tie
+
+abbrev Inv-loop : tie.InvT-loop
+Inv-loop ram₀ block pages needed count next₀ i₀ ram next i = (i ≤ count) × Wrote (content block [] 0 pages) (trackerUses i) ram₀ (next₀ .left) ram (next .left)
+
+abbrev μ-loop : tie.MeasureT-loop
+μ-loop ram₀ block pages needed count next₀ i₀ ram next i = count - i
+
+tracker-pages-requires : tie.Need-tracker-pages-requires Inv-loop μ-loop
+tracker-pages-requires c κs = search needs
+
+loop-holds : tie.Need-loop-holds Inv-loop μ-loop
+loop-holds c = (search needs, tab-none _ _ _ _)
+
+allocate-requires : tie.Need-allocate-requires Inv-loop μ-loop
+allocate-requires c κs = search needs
+
+load-tracker-page-requires : tie.Need-load-tracker-page-requires Inv-loop μ-loop
+load-tracker-page-requires c κs = search needs
+
+add-i : tie.Need-add-i Inv-loop μ-loop
+add-i c = search needs
+
+loop-less : tie.Need-loop-less Inv-loop μ-loop
+loop-less c = search needs
+
+loop-again : tie.Need-loop-again Inv-loop μ-loop
+loop-again c =
+    let loaded = c .before .before .before in
+    let got = loaded .before .before in
+    (omega arith, page-turn _ _ _ (got .before .before .loop .inv .1) (got .allocate .ensures .1) (got .allocate .ensures .0) (loaded .load-tracker-page .ensures))
+
+same-length : tie.Need-same-length Inv-loop μ-loop
+same-length c = search needs
+
+returns : tie.Need-returns Inv-loop μ-loop
+returns c = tracker-end _ _ _ (c .before .loop .inv .1) (omega (arith, c .before .before .tracker-pages .ensures))
+
+pub load-tracker-spec : {M : Type 1} → statement M
+load-tracker-spec =
+    tie.close
+    (tie.spec
+    Inv-loop
+    μ-loop
+    tracker-pages-requires
+    loop-holds
+    allocate-requires
+    load-tracker-page-requires
+    add-i
+    loop-less
+    loop-again
+    same-length
+    returns)

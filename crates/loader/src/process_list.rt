@@ -1,0 +1,80 @@
+// The process list: three words for each process: satp, entry point, stack pointer.
+ghost use mathlib.Core.List.{List};
+ghost use mathlib.Core.Path.{_≡_};
+ghost use Prim.Native.Nat.{ℕ, _+_, _-_, _*_, _≤_, _<_};
+ghost use lib.ListN.{length};
+ghost use Rattle.notation.specs.Lists.{tab};
+ghost use Rattle.rules.specs.Block.{entryPoint};
+ghost use Rattle.rules.specs.Space.{processList};
+ghost use Rattle.rules.specs.Order.{holds, trackerPages};
+ghost use Rattle.rules.specs.Contents.{stackPointer, processListByte};
+ghost use Rattle.rules.specs.Load.{satpWord};
+ghost use Rattle.slices.specs.Writes.{withWord};
+ghost use Rattle.placement.specs.Places.{trackerPlace, rootPlace};
+ghost use Rattle.writing.specs.Pages.{put};
+ghost use Rattle.writing.specs.Loaded.{content};
+ghost use Rattle.loader.specs.Fits.{Fits};
+use pages::PageAllocator;
+use types::PhysPage;
+
+// The stack pointer that process q starts with.
+fn stack_pointer(q: u32) -> u32
+    ensures { λ r. ⌜ r ≡ stackPointer q ⌝ }
+{
+    if q == 1 {
+        return 0;
+    }
+    0x8000_0000
+}
+
+// The three words of process q, whose root table is the physical page `root`.
+fn put_process(page: &mut [u8], block: &[u8], q: u32, root: PhysPage)
+    requires { ⌜ (1 ≤ q) × (q ≤ 16) × (root .0 < 0x10_0000) ⌝ }
+    ensures { λ _. ⌜ now (page .exit) ≡ withWord (withWord (withWord (now (page .entry))
+        (12 * (q - 1)) (0x8000_0000 + 0x40_0000 * q + root .0))
+        (12 * (q - 1) + 4) (entryPoint (now (block .entry)) q))
+        (12 * (q - 1) + 8) (stackPointer q) ⌝ }
+{
+    let process = records::read_process(block, q);
+    let at = 12 * (q as usize - 1);
+    slices::put_word(page, at, 0x8000_0000 + 0x40_0000 * q + root.0);
+    slices::put_word(page, at + 4, process.entry_point);
+    slices::put_word(page, at + 8, stack_pointer(q));
+}
+
+// The whole list. `first` is the place of the kernel's root table in the order of pages; each root is followed by the leaf
+// tables of its process.
+fn list_processes(page: &mut [u8], block: &[u8], base: u32, pages: u32, first: u32)
+    requires { ⌜ Fits (now block) base pages × (first ≡ rootPlace (now block) (trackerPages (now block) pages) 1) × (192 ≤ length (now page)) ⌝ }
+    ensures { λ _. ⌜ now (page .exit) ≡ tab (length (now (page .entry))) (processListByte (now (block .entry)) (satpWord (now (block .entry)) base pages)) ⌝ }
+{
+    slices::clear(page);
+    let count = records::process_count(block);
+    let mut place = first;
+    let mut i: u32 = 0;
+    while i < count {
+        let root = PhysPage(base + (pages - 1 - place));
+        put_process(page, block, i + 1, root);
+        place += leaves::table_count(block, i + 1);
+        i += 1;
+    }
+}
+
+// The process list into the next page. The roots come after it and the copy of the block.
+pub(crate) fn load_process_list(
+    ram: &mut [u8],
+    block: &[u8],
+    base: u32,
+    pages: u32,
+    from: PageAllocator,
+) -> PageAllocator
+    requires { ⌜ Fits (now block) base pages × (from .left ≡ pages - (trackerPlace (now block) + trackerPages (now block) pages)) × (4096 * from .left ≤ length (now ram)) ⌝ }
+    ensures { λ r. ⌜ (r .left ≡ from .left - 1)
+        × ((flash : List ℕ) → now (ram .exit) ≡ put (now (ram .entry)) (from .left - 1) (content (now (block .entry)) flash base pages (holds processList))) ⌝ }
+{
+    let got = from.allocate();
+    let start = got.page.0 as usize * 4096;
+    let page = &mut ram[start..start + 4096];
+    list_processes(page, block, base, pages, pages - from.left + 2);
+    got.rest
+}

@@ -1,0 +1,90 @@
+// The page tracker: a byte for each RAM page, its owner's number, and then one for each I/O page.
+ghost use mathlib.Core.Path.{_≡_};
+ghost use mathlib.Core.List.{List};
+ghost use Prim.Native.Nat.{ℕ, _+_, _-_, _*_};
+ghost use lib.ListN.{length, getD};
+ghost use Rattle.notation.specs.Lists.{tab};
+ghost use Rattle.rules.specs.Space.{trackerPage};
+ghost use Rattle.rules.specs.Order.{holds, trackerPages};
+ghost use Rattle.rules.specs.Contents.{tracker};
+ghost use Rattle.writing.specs.Pages.{put};
+ghost use Rattle.writing.specs.Uses.{writeUses};
+ghost use Rattle.writing.specs.Loaded.{content};
+ghost use Rattle.loader.specs.Counted.{Counted};
+use pages::PageAllocator;
+use types::RamPage;
+
+// The owners of all RAM pages: the pages taken are the kernel's, but for the section pages of user processes.
+fn track_owners(page: &mut [u8], block: &[u8], pages: u32, needed: u32)
+    requires { ⌜ Counted (now block) pages needed ⌝ }
+    ensures { λ _. ⌜ now (page .exit) ≡ tab (length (now (page .entry))) (λ k. getD (tracker (now (block .entry)) pages) k 0) ⌝ }
+{
+    slices::clear(page);
+    pages::fill(page, (pages - needed) as usize, pages as usize, 1);
+    let users = records::process_count(block) - 1;
+    // Below the four pages at the top: process 2's, then process 3's and so on.
+    let mut end = pages - 4;
+    let mut i: u32 = 0;
+    while i < users {
+        let start = end - counts::process_pages(block, i + 2) as u32;
+        pages::fill(page, start as usize, end as usize, (i + 2) as u8);
+        end = start;
+        i += 1;
+    }
+}
+
+// Page i of the tracker. All RAM pages are in page 0, since RAM has at most 4,096; after them all bytes are 0.
+fn track_page(page: &mut [u8], block: &[u8], pages: u32, needed: u32, i: u32)
+    requires { ⌜ Counted (now block) pages needed ⌝ }
+    ensures { λ _. ⌜ now (page .exit) ≡ tab (length (now (page .entry))) (λ o. getD (tracker (now (block .entry)) pages) (4096 * i + o) 0) ⌝ }
+{
+    if i == 0 {
+        track_owners(page, block, pages, needed);
+        return;
+    }
+    slices::clear(page);
+}
+
+// Page i of the tracker into RAM page k.
+fn load_tracker_page(ram: &mut [u8], k: RamPage, block: &[u8], pages: u32, needed: u32, i: u32)
+    requires { ⌜ Counted (now block) pages needed ⌝ }
+    ensures { λ _. ⌜ now (ram .exit) ≡ put (now (ram .entry)) (k .0) (λ o. getD (tracker (now (block .entry)) pages) (4096 * i + o) 0) ⌝ }
+{
+    let from = slices::least(k.0 as usize * 4096, ram.len());
+    let to = slices::least(from + 4096, ram.len());
+    let page = &mut ram[from..to];
+    track_page(page, block, pages, needed, i);
+}
+
+// How many pages the tracker has.
+fn tracker_pages(block: &[u8], pages: u32, needed: u32) -> u32
+    requires { ⌜ Counted (now block) pages needed ⌝ }
+    ensures { λ r. ⌜ r ≡ trackerPages (now (block .entry)) pages ⌝ }
+{
+    let io = records::io_pages_of(block, records::region_count(block));
+    ((pages as u64 + io + 4095) / 4096) as u32
+}
+
+// The whole tracker.
+pub(crate) fn load_tracker(
+    ram: &mut [u8],
+    block: &[u8],
+    pages: u32,
+    needed: u32,
+    from: PageAllocator,
+) -> PageAllocator
+    requires { ⌜ Counted (now block) pages needed ⌝ }
+    ensures { λ r. ⌜ (r .left ≡ from .left - trackerPages (now (block .entry)) pages)
+        × ((flash : List ℕ) (base : ℕ) → now (ram .exit) ≡ writeUses (content (now (block .entry)) flash base pages) (now (ram .entry)) (from .left) (tab (trackerPages (now (block .entry)) pages) (λ i. holds (trackerPage i)))) ⌝ }
+{
+    let count = tracker_pages(block, pages, needed);
+    let mut next = from;
+    let mut i: u32 = 0;
+    while i < count {
+        let got = next.allocate();
+        load_tracker_page(ram, got.page, block, pages, needed, i);
+        next = got.rest;
+        i += 1;
+    }
+    next
+}
