@@ -1,4 +1,6 @@
 pub mod LeafEntries
+pub mod Loading
+pub mod Needed
 pub mod ProcessWords
 pub mod TablePages
 pub mod TrackerBytes

@@ -9,9 +9,9 @@ ghost use Rattle.rules.specs.Space.{sectionAtPage, kernelPage, userPage};
 ghost use Rattle.rules.specs.Order.{hasLeaf, trackerPages};
 ghost use Rattle.rules.specs.Tables.{leafEntry};
 ghost use Rattle.rules.specs.Load.{physPage};
-ghost use Rattle.placement.specs.Places.{userPages, sectionPlace, trackerPlace};
 ghost use Rattle.loader.specs.Fits.{Fits};
 ghost use Rattle.loader.specs.LeafEntries.{entriesOf, trackerMapped};
+use crate::places::{page_at, section_place, tracker_pages, tracker_place};
 use types::PhysPage;
 
 // The entry of the kernel's leaf table for 0xFFF00000.
@@ -22,56 +22,6 @@ const TRACKER: u32 = 0x340;
 
 // The entry for 0xFFF80000.
 const PROCESS_LIST: u32 = 0x380;
-
-// The section pages of processes 2 to n + 1.
-fn user_pages(block: &[u8], n: u32) -> u32
-    requires { ⌜ (n ≤ 16) × (userPages (now block) n ≤ 4096) ⌝ }
-    ensures { λ r. ⌜ r ≡ userPages (now (block .entry)) n ⌝ }
-{
-    let mut pages: u32 = 0;
-    let mut i: u32 = 0;
-    while i < n {
-        pages += counts::process_pages(block, i + 2) as u32;
-        i += 1;
-    }
-    pages
-}
-
-// The place of the first section page of process q.
-fn section_place(block: &[u8], q: u32) -> u32
-    requires { ⌜ (1 ≤ q) × (q ≤ processCount (now block)) × (processCount (now block) ≤ 16) × (sectionPlace (now block) q ≤ 4096) ⌝ }
-    ensures { λ r. ⌜ r ≡ sectionPlace (now (block .entry)) q ⌝ }
-{
-    if q == 1 {
-        return 4 + user_pages(block, records::process_count(block) - 1);
-    }
-    4 + user_pages(block, q - 2)
-}
-
-// The place of the first tracker page.
-fn tracker_place(block: &[u8]) -> u32
-    requires { ⌜ (1 ≤ processCount (now block)) × (processCount (now block) ≤ 16) × (trackerPlace (now block) ≤ 4096) ⌝ }
-    ensures { λ r. ⌜ r ≡ trackerPlace (now (block .entry)) ⌝ }
-{
-    section_place(block, 1) + counts::process_pages(block, 1) as u32
-}
-
-// How many pages the tracker has.
-fn tracker_pages(block: &[u8], pages: u32) -> u32
-    requires { ⌜ trackerPages (now block) pages ≤ 4096 ⌝ }
-    ensures { λ r. ⌜ r ≡ trackerPages (now (block .entry)) pages ⌝ }
-{
-    let io = records::io_pages_of(block, records::region_count(block));
-    ((pages as u64 + io + 4095) / 4096) as u32
-}
-
-// The physical page of the use at a place.
-fn page_at(base: u32, pages: u32, place: u32) -> PhysPage
-    requires { ⌜ (base + pages ≤ 0x10_0000) × (place < pages) ⌝ }
-    ensures { λ r. ⌜ r .0 ≡ base + (pages - 1 - place) ⌝ }
-{
-    PhysPage(base + (pages - 1 - place))
-}
 
 // Maps the sections of process q in the leaf table for root slot m, whose entries are all absent.
 fn map_sections(

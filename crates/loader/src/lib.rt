@@ -1,5 +1,50 @@
-// The loader.
+// The loader: everything is checked before anything is written; then the pages are written in the order of pages.
+ghost use mathlib.Core.List.{List};
+ghost use mathlib.Core.Path.{_≡_};
+ghost use Prim.Native.Nat.{ℕ, _-_, _*_, _/_};
+ghost use lib.ListN.{length};
+ghost use Rattle.rules.specs.Space.{blockCopy};
+ghost use Rattle.rules.specs.Order.{holds, freePages};
+ghost use Rattle.rules.specs.Load.{loaded};
+ghost use Rattle.writing.specs.Pages.{put};
+ghost use Rattle.writing.specs.Loaded.{content};
+ghost use Rattle.loader.specs.Fits.{Fits};
+
+use pages::PageAllocator;
+
 mod leaf_entries;
+mod places;
 mod process_list;
 mod table_pages;
 mod tracker;
+
+// The copy of the block, in the next page.
+fn load_block(ram: &mut [u8], block: &[u8], from: PageAllocator) -> PageAllocator
+    ensures { λ r. ⌜ (r .left ≡ from .left - 1)
+        × ((flash : List ℕ) (base N : ℕ) → now (ram .exit) ≡ put (now (ram .entry)) (from .left - 1) (content (now (block .entry)) flash base N (holds blockCopy))) ⌝ }
+{
+    let got = from.allocate();
+    let start = slices::least(got.page.0 as usize * 4096, ram.len());
+    let end = slices::least(start + 4096, ram.len());
+    let page = &mut ram[start..end];
+    pages::block_page(page, block);
+    got.rest
+}
+
+// All pages of a block that was accepted on this RAM. Answers how many pages are free.
+fn load_pages(block: &[u8], flash: &[u8], ram: &mut [u8], start: u32) -> u32
+    requires { ⌜ Fits (now block) (start / 4096) (length (now ram) / 4096) × (4096 * (length (now ram) / 4096) ≡ length (now ram)) ⌝ }
+    ensures { λ r. ⌜ (r ≡ freePages (now (block .entry)) (length (now (ram .entry)) / 4096))
+        × (now (ram .exit) ≡ loaded (now (block .entry)) (now (flash .entry)) start (now (ram .entry))) ⌝ }
+{
+    let pages = (ram.len() / 4096) as u32;
+    let base = start / 4096;
+    let needed = places::pages_needed(block, pages);
+    let below_top = PageAllocator { left: pages - 4 };
+    let after_sections = sections::load_sections(ram, block, flash, below_top);
+    let after_tracker = tracker::load_tracker(ram, block, pages, needed, after_sections);
+    let after_list = process_list::load_process_list(ram, block, base, pages, after_tracker);
+    let after_copy = load_block(ram, block, after_list);
+    let after_tables = table_pages::load_tables(ram, block, base, pages, after_copy);
+    after_tables.left
+}

@@ -11,6 +11,7 @@ ghost use Rattle.writing.specs.Pages.{put};
 ghost use Rattle.writing.specs.Uses.{writeUses};
 ghost use Rattle.writing.specs.Loaded.{content};
 ghost use Rattle.loader.specs.Counted.{Counted};
+use crate::places::tracker_pages;
 use pages::PageAllocator;
 use types::RamPage;
 
@@ -56,15 +57,6 @@ fn load_tracker_page(ram: &mut [u8], k: RamPage, block: &[u8], pages: u32, neede
     track_page(page, block, pages, needed, i);
 }
 
-// How many pages the tracker has.
-fn tracker_pages(block: &[u8], pages: u32, needed: u32) -> u32
-    requires { ⌜ Counted (now block) pages needed ⌝ }
-    ensures { λ r. ⌜ r ≡ trackerPages (now (block .entry)) pages ⌝ }
-{
-    let io = records::io_pages_of(block, records::region_count(block));
-    ((pages as u64 + io + 4095) / 4096) as u32
-}
-
 // The whole tracker.
 pub(crate) fn load_tracker(
     ram: &mut [u8],
@@ -77,7 +69,7 @@ pub(crate) fn load_tracker(
     ensures { λ r. ⌜ (r .left ≡ from .left - trackerPages (now (block .entry)) pages)
         × ((flash : List ℕ) (base : ℕ) → now (ram .exit) ≡ writeUses (content (now (block .entry)) flash base pages) (now (ram .entry)) (from .left) (tab (trackerPages (now (block .entry)) pages) (λ i. holds (trackerPage i)))) ⌝ }
 {
-    let count = tracker_pages(block, pages, needed);
+    let count = tracker_pages(block, pages);
     let mut next = from;
     let mut i: u32 = 0;
     while i < count {

@@ -3,7 +3,7 @@ use Prim.Native.Nat.{_-_, _≤_}
 use Rattle.writing.specs.Uses.{Wrote}
 use Rattle.writing.specs.Loaded.{content}
 use Rattle.sections.proofs.Laws.{tab-none}
-use Rattle.loader.proofs.TrackerBytes.{trackerUses, page-turn, tracker-end}
+use Rattle.loader.proofs.TrackerBytes.{trackerUses, tracker-fits, page-turn, tracker-end}
 use native.Mathlib.Omega.{arith}
 use borrow.Author.Needs.{needs}
 use Rattle.loader.proofs.tracker.load_tracker.Statement.{statement}
@@ -16,7 +16,7 @@ abbrev μ-loop : tie.MeasureT-loop
 μ-loop ram₀ block pages needed count next₀ i₀ ram next i = count - i
 
 tracker-pages-requires : tie.Need-tracker-pages-requires Inv-loop μ-loop
-tracker-pages-requires c κs = search needs
+tracker-pages-requires c κs = omega (arith, tracker-fits (c .before .before .pre), c .before .before .pre .few-pages)
 
 loop-holds : tie.Need-loop-holds Inv-loop μ-loop
 loop-holds c = (search needs, tab-none _ _ _ _)

@@ -4,8 +4,8 @@ use Rattle.placement.specs.Places.{userPages, user-pages-none}
 use Rattle.loader.proofs.LeafEntries.{users-turn}
 use native.Mathlib.Omega.{arith}
 use borrow.Author.Needs.{needs}
-use Rattle.loader.proofs.leaf_entries.user_pages.Statement.{statement}
-use Rattle.loader.proofs.leaf_entries.user_pages.Tie as tie
+use Rattle.loader.proofs.places.user_pages.Statement.{statement}
+use Rattle.loader.proofs.places.user_pages.Tie as tie
 
 abbrev Inv-loop : tie.InvT-loop
 Inv-loop block n pages₀ i₀ pages i = (i ≤ n) × (pages ≡ userPages block i)

@@ -1,7 +1,7 @@
 use Rattle.placement.specs.Places.{trackerPlace}
 use borrow.Author.Needs.{needs}
-use Rattle.loader.proofs.leaf_entries.tracker_place.Statement.{statement}
-use Rattle.loader.proofs.leaf_entries.tracker_place.Tie as tie
+use Rattle.loader.proofs.places.tracker_place.Statement.{statement}
+use Rattle.loader.proofs.places.tracker_place.Tie as tie
 
 section-place-requires : tie.Need-section-place-requires
 unfolding trackerPlace

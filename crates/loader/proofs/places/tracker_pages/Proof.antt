@@ -1,8 +1,8 @@
 use Rattle.loader.proofs.LeafEntries.{tracker-pages-is}
 use native.Mathlib.Omega.{arith}
 use borrow.Author.Needs.{needs}
-use Rattle.loader.proofs.leaf_entries.tracker_pages.Statement.{statement}
-use Rattle.loader.proofs.leaf_entries.tracker_pages.Tie as tie
+use Rattle.loader.proofs.places.tracker_pages.Statement.{statement}
+use Rattle.loader.proofs.places.tracker_pages.Tie as tie
 
 region-count-requires : tie.Need-region-count-requires
 region-count-requires c κs = search needs

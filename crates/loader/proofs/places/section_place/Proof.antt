@@ -1,8 +1,8 @@
 use Rattle.loader.proofs.LeafEntries.{kernel-place, user-place}
 use native.Mathlib.Omega.{arith}
 use borrow.Author.Needs.{needs}
-use Rattle.loader.proofs.leaf_entries.section_place.Statement.{statement}
-use Rattle.loader.proofs.leaf_entries.section_place.Tie as tie
+use Rattle.loader.proofs.places.section_place.Statement.{statement}
+use Rattle.loader.proofs.places.section_place.Tie as tie
 
 process-count-requires : tie.Need-process-count-requires
 process-count-requires c κs = search needs
