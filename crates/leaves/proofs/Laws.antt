@@ -1,8 +1,8 @@
 -- Laws of the marks of root slots.
-use mathlib.Core.Path.{_≡_, refl, sym, ap, _∙_}
-use mathlib.Core.Bool.{Bool, true, false, _&&_}
+use mathlib.Core.Path.{_≡_, refl, ap, _∙_}
+use mathlib.Core.Bool.{Bool, true, _&&_}
 use mathlib.Core.List.{List, [], _∷_}
-use Prim.Native.Nat.{ℕ, _+_, _/_, _≤_, _<_, min, max}
+use Prim.Native.Nat.{ℕ, _+_, _/_, _≤_, min, max}
 use native.Mathlib.Numerals.{add-one}
 use native.Mathlib.Decide.{decLt, ℕ-discrete}
 use native.Mathlib.Omega.{arith}
@@ -11,12 +11,12 @@ use lib.ListN.{length, getD}
 use borrow.Author.Tests.{eq-eqb, ne-eqb, le-leb, lt-leb}
 use Rattle.notation.specs.Choice.{choose}
 use Rattle.notation.specs.Lists.{tab, gather, sum, exists}
-use Rattle.slices.proofs.Written.{Between}
 use Rattle.laws.specs.Choice.{choose-yes, choose-no, choose-either}
 use Rattle.laws.specs.Lists.{tab-by, tab-length, tab-get, tab-same}
 use Rattle.laws.specs.Counts.{one, sum-same, gather-length, one-length}
 use Rattle.rules.specs.Block.{sectionsOf, sectionRecord, firstPage, lastPage}
 use Rattle.rules.specs.Order.{leafTable, inRootSlot, hasLeaf, tableUses}
+use Rattle.slices.proofs.Written.{Between}
 use Rattle.leaves.specs.Marks.{leafMarks, alsoMarked, touched}
 
 -- a loop from `first` up to `last`, or up to the end of n marks, marks what is asked

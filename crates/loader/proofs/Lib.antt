@@ -1,3 +1,4 @@
+pub mod Accepted
 pub mod LeafEntries
 pub mod Loading
 pub mod Needed

@@ -5,12 +5,13 @@ ghost use Prim.Native.Nat.{ℕ, _-_, _*_, _/_};
 ghost use lib.ListN.{length};
 ghost use Rattle.rules.specs.Space.{blockCopy};
 ghost use Rattle.rules.specs.Order.{holds, freePages};
-ghost use Rattle.rules.specs.Load.{loaded};
+ghost use Rattle.rules.specs.Load.{loaded, answer, ramAfter};
 ghost use Rattle.writing.specs.Pages.{put};
 ghost use Rattle.writing.specs.Loaded.{content};
 ghost use Rattle.loader.specs.Fits.{Fits};
 
 use pages::PageAllocator;
+use types::Answer;
 
 mod leaf_entries;
 mod places;
@@ -47,4 +48,32 @@ fn load_pages(block: &[u8], flash: &[u8], ram: &mut [u8], start: u32) -> u32
     let after_copy = load_block(ram, block, after_list);
     let after_tables = table_pages::load_tables(ram, block, base, pages, after_copy);
     after_tables.left
+}
+
+// Loads the block's programs from flash into RAM that starts at physical address `start`, or refuses. Answers number, place,
+// pages taken, pages free and tracker pages; in a refusal the three counts are 0 and RAM is as it came.
+pub fn load(block: &[u8], flash: &[u8], ram: &mut [u8], start: u32) -> Answer
+    ensures { λ r. ⌜ (r ≡ answer (now (block .entry)) (length (now (flash .entry))) start (length (now (ram .entry))))
+        × (now (ram .exit) ≡ ramAfter (now (block .entry)) (now (flash .entry)) start (now (ram .entry))) ⌝ }
+{
+    let verdict = checks::check(block, flash.len(), start, ram.len());
+    if verdict.number != 0 {
+        return Answer {
+            number: verdict.number,
+            place: verdict.place,
+            taken: 0,
+            free: 0,
+            tracker: 0,
+        };
+    }
+    let pages = (ram.len() / 4096) as u32;
+    let tracker = places::tracker_pages(block, pages);
+    let free = load_pages(block, flash, ram, start);
+    Answer {
+        number: 0,
+        place: 0,
+        taken: pages - free,
+        free,
+        tracker,
+    }
 }

@@ -9,7 +9,6 @@ use lib.ListN.{length}
 use Rattle.notation.specs.Words.{word, bit}
 use Rattle.laws.specs.Words.{word-past}
 use Rattle.rules.specs.Block.{sectionsAt, sectionAt, address, size, flashOffset, flags, noCopy, writable, executable, sectionEnd, firstPage, lastPage, pageCount}
-use Rattle.records.specs.declared.Section.{Section}
 use Rattle.records.specs.Read.{IsSection}
 
 -- the words past the end are those of every section record past the end

@@ -3,6 +3,7 @@ ghost use mathlib.Core.Path.{_≡_};
 ghost use Prim.Native.Nat.{ℕ, _+_, _-_, _*_, _/_, _<_, _≤_};
 ghost use Rattle.notation.specs.Words.{word, bit as bitOf};
 ghost use Rattle.rules.specs.Block.{processCount, sectionCount, regionCount, sectionAt, ioPagesOf};
+ghost use Rattle.rules.specs.Order.{trackerPages};
 ghost use Rattle.records.specs.Read.{IsProcess, IsSection, IsRegion};
 
 pub struct Process {
@@ -138,4 +139,11 @@ pub fn io_pages_of(block: &[u8], n: u32) -> u64
         i += 1;
     }
     sum
+}
+
+// The pages of the page tracker, where RAM has `pages` pages: one byte for each RAM and I/O page.
+pub fn tracker_pages(block: &[u8], pages: u32) -> u64
+    ensures { λ r. ⌜ (r ≡ trackerPages (now (block .entry)) pages) × (r ≤ 0x10_0000_0000_0000) ⌝ }
+{
+    (pages as u64 + io_pages_of(block, region_count(block)) + 4095) / 4096
 }

@@ -1,13 +1,7 @@
-use Rattle.leaves.proofs.Laws.{kernel-marks, user-marks}
-use native.Mathlib.Omega.{arith}
 use borrow.Author.Needs.{needs}
+use Rattle.leaves.proofs.Laws.{kernel-marks, user-marks}
 use Rattle.leaves.proofs.leaf_marks.Statement.{statement}
 use Rattle.leaves.proofs.leaf_marks.Tie as tie
-use Rattle.leaves.proofs.leaf_marks.Reads as reads
-use Rattle.leaves.proofs.leaf_marks.Lts as lts
-use Rattle.leaves.proofs.mark.Reads as mark-reads
-use Rattle.leaves.proofs.mark_sections.Reads as mark-sections-reads
-use Rattle.slices.proofs.clear.Reads as clear-reads
 
 clear-requires : tie.Need-clear-requires
 clear-requires c κs = search needs
@@ -19,7 +13,7 @@ same-length : tie.Need-same-length
 same-length c = search needs
 
 returns : tie.Need-returns
-returns c = 
+returns c =
     let k = c .before .before .before .before in
     kernel-marks _ _ _ _ _ (k .if1 .taken) (k .before .before .before .clear .ensures) (c .before .before .mark .ensures)
 
@@ -33,7 +27,7 @@ same-length-2 : tie.Need-same-length-2
 same-length-2 c = search needs
 
 returns-2 : tie.Need-returns-2
-returns-2 c = 
+returns-2 c =
     let s = c .before .before .before .before .before .before in
     let k = s .before .before in
     user-marks _ _ _ _ _ _ (k .if1 .left) (k .before .before .before .clear .ensures) (s .mark-sections .ensures) (c .before .before .mark2 .ensures)

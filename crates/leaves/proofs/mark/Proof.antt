@@ -1,15 +1,12 @@
 use mathlib.Core.Path.{refl}
-use Rattle.slices.proofs.Written.{Written, written-none, written-more, chosen-is}
-use Rattle.leaves.specs.Marks.{alsoMarked}
-use Rattle.leaves.proofs.Laws.{mark-between}
 use Prim.Native.Nat.{_≤_, _-_, max}
 use native.Mathlib.Omega.{arith}
 use borrow.Author.Needs.{needs}
+use Rattle.slices.proofs.Written.{Written, written-none, written-more, chosen-is}
+use Rattle.leaves.specs.Marks.{alsoMarked}
+use Rattle.leaves.proofs.Laws.{mark-between}
 use Rattle.leaves.proofs.mark.Statement.{statement}
 use Rattle.leaves.proofs.mark.Tie as tie
-use Rattle.leaves.proofs.mark.Reads as reads
-use Rattle.leaves.proofs.mark.Lts as lts
-use Rattle.slices.proofs.least.Reads as least-reads
 
 abbrev Inv-loop : tie.InvT-loop
 Inv-loop marks₀ first last end m₀ marks m = (first ≤ m) × (m ≤ max first end) × Written (λ k. 1) first m marks₀ marks

@@ -1,12 +1,7 @@
-use Rattle.leaves.proofs.Laws.{section-marks}
-use native.Mathlib.Omega.{arith}
 use borrow.Author.Needs.{needs}
+use Rattle.leaves.proofs.Laws.{section-marks}
 use Rattle.leaves.proofs.mark_section.Statement.{statement}
 use Rattle.leaves.proofs.mark_section.Tie as tie
-use Rattle.leaves.proofs.mark_section.Reads as reads
-use Rattle.leaves.proofs.mark_section.Lts as lts
-use Rattle.leaves.proofs.mark.Reads as mark-reads
-use Rattle.records.proofs.read_section.Reads as read-section-reads
 
 read-section-requires : tie.Need-read-section-requires
 read-section-requires c κs = search needs
@@ -18,7 +13,7 @@ same-length : tie.Need-same-length
 same-length c = search needs
 
 returns : tie.Need-returns
-returns c = 
+returns c =
     let r = c .before .before .before .before .before .before .read-section .ensures in
     section-marks _ _ _ _ _ _ (r .first-page) (r .last-page) (c .before .before .mark .ensures)
 

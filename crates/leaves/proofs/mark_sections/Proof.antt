@@ -1,17 +1,13 @@
-use Rattle.rules.specs.Block.{sectionsOf, sectionRecord}
-use Rattle.leaves.proofs.Laws.{sections-start, sections-turn}
-use Rattle.leaves.specs.Marks.{alsoMarked, touched}
-use lib.ListN.{length}
 use mathlib.Core.Path.{_≡_, refl}
 use Prim.Native.Nat.{_≤_, _-_}
 use native.Mathlib.Omega.{arith}
+use lib.ListN.{length}
 use borrow.Author.Needs.{needs}
+use Rattle.rules.specs.Block.{sectionsOf, sectionRecord}
+use Rattle.leaves.specs.Marks.{alsoMarked, touched}
+use Rattle.leaves.proofs.Laws.{sections-start, sections-turn}
 use Rattle.leaves.proofs.mark_sections.Statement.{statement}
 use Rattle.leaves.proofs.mark_sections.Tie as tie
-use Rattle.leaves.proofs.mark_sections.Reads as reads
-use Rattle.leaves.proofs.mark_sections.Lts as lts
-use Rattle.leaves.proofs.mark_section.Reads as mark-section-reads
-use Rattle.records.proofs.read_process.Reads as read-process-reads
 
 abbrev Inv-loop : tie.InvT-loop
 Inv-loop block q marks₀ first sections j₀ marks j = (j ≤ sections) × (length marks ≡ length marks₀) × (marks ≡ alsoMarked (touched block q j) marks₀)
@@ -45,7 +41,7 @@ loop-less c = search needs
 
 loop-again : tie.Need-loop-again Inv-loop μ-loop
 unfolding sectionRecord
-loop-again c = 
+loop-again c =
     let v = c .before .before .before .before .before in
     let n = v .before .read-process .ensures .first-section in
     (omega arith, omega arith, sections-turn _ _ _ _ _ _ _ (v .loop .inv .2) (omega arith) (c .before .before .mark-section .ensures))
@@ -54,7 +50,7 @@ same-length : tie.Need-same-length Inv-loop μ-loop
 same-length c = search needs
 
 returns : tie.Need-returns Inv-loop μ-loop
-returns c = 
+returns c =
     let e : c .before .loop .j ≡ sectionsOf (c .before .before .before .before .before .args .block .now) (c .before .before .before .before .before .args .q) = omega arith in
     rw e at (c .before .loop .inv .2)
 

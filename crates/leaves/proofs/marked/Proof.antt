@@ -1,14 +1,12 @@
-use Rattle.laws.specs.Counts.{sum-none, sum-next}
-use Rattle.notation.specs.Lists.{sum}
-use lib.ListN.{length, getD}
 use mathlib.Core.Path.{_≡_, sym}
 use Prim.Native.Nat.{_≤_, _-_, _*_}
 use native.Mathlib.Omega.{arith}
+use lib.ListN.{length, getD}
 use borrow.Author.Needs.{needs}
+use Rattle.notation.specs.Lists.{sum}
+use Rattle.laws.specs.Counts.{sum-none, sum-next}
 use Rattle.leaves.proofs.marked.Statement.{statement}
 use Rattle.leaves.proofs.marked.Tie as tie
-use Rattle.leaves.proofs.marked.Reads as reads
-use Rattle.leaves.proofs.marked.Lts as lts
 
 abbrev Inv-loop : tie.InvT-loop
 Inv-loop marks total₀ m₀ total m = (m ≤ length marks) × (total ≡ sum m (λ i. getD marks i 0)) × (total ≤ 255 * m)
@@ -35,12 +33,12 @@ loop-less : tie.Need-loop-less Inv-loop μ-loop
 loop-less c = search needs
 
 loop-again : tie.Need-loop-again Inv-loop μ-loop
-loop-again c = 
+loop-again c =
     let t = sum-next (c .before .before .loop .m) (λ i. getD (c .before .before .before .args .marks .now) i 0) in
     (omega arith, omega arith, omega (arith, c .shared-slice-known .given (c .before .before .loop .m)))
 
 returns : tie.Need-returns Inv-loop μ-loop
-returns c = 
+returns c =
     let e : c .before .loop .m ≡ length (c .before .before .args .marks .now) = omega arith in
     (rw e at (c .before .loop .inv .1), omega arith)
 

@@ -1,12 +1,7 @@
-use Rattle.leaves.proofs.Laws.{table-length}
-use native.Mathlib.Omega.{arith}
 use borrow.Author.Needs.{needs}
+use Rattle.leaves.proofs.Laws.{table-length}
 use Rattle.leaves.proofs.table_count.Statement.{statement}
 use Rattle.leaves.proofs.table_count.Tie as tie
-use Rattle.leaves.proofs.table_count.Reads as reads
-use Rattle.leaves.proofs.table_count.Lts as lts
-use Rattle.leaves.proofs.leaf_marks.Reads as leaf-marks-reads
-use Rattle.leaves.proofs.marked.Reads as marked-reads
 
 slice-aggregate-leaf-marks : tie.Need-slice-aggregate-leaf-marks
 slice-aggregate-leaf-marks c = search needs

@@ -1,14 +1,11 @@
-use Rattle.laws.specs.Counts.{sum-none, sum-next}
-use Rattle.rules.specs.Block.{ioPagesOf, regionPages}
 use mathlib.Core.Path.{_≡_, sym}
 use Prim.Native.Nat.{_≤_, _*_, _-_}
 use native.Mathlib.Omega.{arith}
 use borrow.Author.Needs.{needs}
+use Rattle.laws.specs.Counts.{sum-none, sum-next}
+use Rattle.rules.specs.Block.{ioPagesOf, regionPages}
 use Rattle.records.proofs.io_pages_of.Statement.{statement}
 use Rattle.records.proofs.io_pages_of.Tie as tie
-use Rattle.records.proofs.io_pages_of.Reads as reads
-use Rattle.records.proofs.io_pages_of.Lts as lts
-use Rattle.records.proofs.read_region.Reads as read-region-reads
 
 abbrev Inv-loop : tie.InvT-loop
 Inv-loop block n sum₀ i₀ sum i = (i ≤ n) × (sum ≡ ioPagesOf block i) × (sum ≤ 4294967295 * i)

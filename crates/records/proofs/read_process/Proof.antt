@@ -1,12 +1,7 @@
-use Rattle.rules.specs.Block.{entryPoint, firstSection, sectionsOf, kind, processAt}
-use native.Mathlib.Omega.{arith}
 use borrow.Author.Needs.{needs}
+use Rattle.rules.specs.Block.{entryPoint, firstSection, sectionsOf, kind, processAt}
 use Rattle.records.proofs.read_process.Statement.{statement}
 use Rattle.records.proofs.read_process.Tie as tie
-use Rattle.records.proofs.read_process.Reads as reads
-use Rattle.records.proofs.read_process.Lts as lts
-use Rattle.slices.proofs.minus.Reads as minus-reads
-use Rattle.slices.proofs.word.Reads as word-reads
 
 minus-requires : tie.Need-minus-requires
 minus-requires c κs = search needs

@@ -1,13 +1,7 @@
-use Rattle.rules.specs.Block.{regionStart, regionPages, regionEnd, regionAt, regionsAt, sectionsAt}
-use native.Mathlib.Omega.{arith}
 use borrow.Author.Needs.{needs}
+use Rattle.rules.specs.Block.{regionStart, regionPages, regionEnd, regionAt, regionsAt, sectionsAt}
 use Rattle.records.proofs.read_region.Statement.{statement}
 use Rattle.records.proofs.read_region.Tie as tie
-use Rattle.records.proofs.read_region.Reads as reads
-use Rattle.records.proofs.read_region.Lts as lts
-use Rattle.records.proofs.process_count.Reads as process-count-reads
-use Rattle.records.proofs.section_count.Reads as section-count-reads
-use Rattle.slices.proofs.word.Reads as word-reads
 
 process-count-requires : tie.Need-process-count-requires
 process-count-requires c κs = search needs

@@ -1,16 +1,10 @@
-use Rattle.records.proofs.Laws.{section-is, first-word}
 use mathlib.Core.Path.{_∙_}
-use Rattle.rules.specs.Block.{address, size, flashOffset, flags}
 use native.Mathlib.Omega.{arith}
 use borrow.Author.Needs.{needs}
+use Rattle.rules.specs.Block.{address, size, flashOffset, flags}
+use Rattle.records.proofs.Laws.{section-is, first-word}
 use Rattle.records.proofs.read_section.Statement.{statement}
 use Rattle.records.proofs.read_section.Tie as tie
-use Rattle.records.proofs.read_section.Reads as reads
-use Rattle.records.proofs.read_section.Lts as lts
-use Rattle.records.proofs.bit.Reads as bit-reads
-use Rattle.records.proofs.section_offset.Reads as section-offset-reads
-use Rattle.slices.proofs.minus.Reads as minus-reads
-use Rattle.slices.proofs.word.Reads as word-reads
 
 section-offset-requires : tie.Need-section-offset-requires
 section-offset-requires c κs = search needs

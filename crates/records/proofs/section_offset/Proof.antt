@@ -1,12 +1,9 @@
-use Rattle.rules.specs.Block.{sectionAt, sectionsAt}
-use Rattle.records.proofs.Laws.{section-past}
 use native.Mathlib.Omega.{arith}
 use borrow.Author.Needs.{needs}
+use Rattle.rules.specs.Block.{sectionAt, sectionsAt}
+use Rattle.records.proofs.Laws.{section-past}
 use Rattle.records.proofs.section_offset.Statement.{statement}
 use Rattle.records.proofs.section_offset.Tie as tie
-use Rattle.records.proofs.section_offset.Reads as reads
-use Rattle.records.proofs.section_offset.Lts as lts
-use Rattle.records.proofs.process_count.Reads as process-count-reads
 
 returns : tie.Need-returns
 returns c = (omega arith, section-past _ _ (c .if1 .taken))

@@ -1,0 +1,152 @@
+use mathlib.Core.Path.{_≡_}
+use mathlib.Core.List.{[], _∷_}
+use mathlib.Core.Bool.{not}
+use Prim.Native.Nat.{_+_, _*_}
+use lib.ListN.{length}
+use lib.Dec.{eqb}
+use borrow.Author.Tests.{eq-eqb, ne-eqb}
+use borrow.Author.Needs.{needs}
+use Rattle.notation.specs.Choice.{any}
+use Rattle.rules.specs.Block.{processOffset, sectionOffset, regionOffset, lengthField, tightLength, regionsAt, sectionsAt}
+use Rattle.rules.specs.Refusals.{layoutNotTight}
+use Rattle.checks.proofs.header.layout_not_tight.Statement.{statement}
+use Rattle.checks.proofs.header.layout_not_tight.Tie as tie
+
+process-count-requires : tie.Need-process-count-requires
+process-count-requires c κs = search needs
+
+cast-sections-at : tie.Need-cast-sections-at
+cast-sections-at c = search needs
+
+mul-sections-at : tie.Need-mul-sections-at
+mul-sections-at c = search needs
+
+add-sections-at : tie.Need-add-sections-at
+add-sections-at c = search needs
+
+section-count-requires : tie.Need-section-count-requires
+section-count-requires c κs = search needs
+
+cast-regions-at : tie.Need-cast-regions-at
+cast-regions-at c = search needs
+
+mul-regions-at : tie.Need-mul-regions-at
+mul-regions-at c = search needs
+
+add-regions-at : tie.Need-add-regions-at
+add-regions-at c = search needs
+
+region-count-requires : tie.Need-region-count-requires
+region-count-requires c κs = search needs
+
+cast-length : tie.Need-cast-length
+cast-length c = search needs
+
+mul-length : tie.Need-mul-length
+mul-length c = search needs
+
+add-length : tie.Need-add-length
+add-length c = search needs
+
+word-requires : tie.Need-word-requires
+word-requires c κs = search needs
+
+word-requires-2 : tie.Need-word-requires-2
+word-requires-2 c κs = search needs
+
+cast-section-offset : tie.Need-cast-section-offset
+cast-section-offset c = search needs
+
+word-requires-3 : tie.Need-word-requires-3
+word-requires-3 c κs = search needs
+
+cast-region-offset : tie.Need-cast-region-offset
+cast-region-offset c = search needs
+
+word-requires-4 : tie.Need-word-requires-4
+word-requires-4 c κs = search needs
+
+cast-length-field : tie.Need-cast-length-field
+cast-length-field c = search needs
+
+-- the tests, of what was read
+tests : (c : tie.After-word4)
+    → let w = c .before .before .before in
+    let p = w .before .before .before .process-count .result in
+    let s = w .before .before .section-count .result in
+    let r = w .before .region-count .result in
+    let b = w .before .before .before .before .before .args .block .now in
+    layoutNotTight b ≡ any (
+    not (eqb (w .word .result) 32)
+    ∷ not (eqb (c .before .before .word2 .result) (32 + 16 * p))
+    ∷ not (eqb (c .before .word3 .result) (32 + 16 * p + 16 * s))
+    ∷ not (eqb (c .word4 .result) (32 + 16 * p + 16 * s + 8 * r))
+    ∷ not (eqb (length b) (32 + 16 * p + 16 * s + 8 * r))
+    ∷ []
+    )
+unfolding layoutNotTight processOffset sectionOffset regionOffset lengthField tightLength regionsAt sectionsAt
+tests c =
+    let w = c .before .before .before in
+    rw (
+      w .word .ensures,
+      c .before .before .word2 .ensures,
+      c .before .word3 .ensures,
+      c .word4 .ensures,
+      w .before .before .before .process-count .ensures,
+      w .before .before .section-count .ensures,
+      w .before .region-count .ensures,
+    )
+
+returns : tie.Need-returns
+unfolding any
+returns c = rw (tests (c .before), ne-eqb _ _ (c .if1 .taken))
+
+returns-2 : tie.Need-returns-2
+unfolding any
+returns-2 c = rw (tests (c .before .before), eq-eqb _ _ (c .before .if1 .left), ne-eqb _ _ (c .if2 .taken))
+
+returns-3 : tie.Need-returns-3
+unfolding any
+returns-3 c = rw (tests (c .before .before .before), eq-eqb _ _ (c .before .before .if1 .left), eq-eqb _ _ (c .before .if2 .left), ne-eqb _ _ (c .if3 .taken))
+
+returns-4 : tie.Need-returns-4
+unfolding any
+returns-4 c = rw (tests (c .before .before .before .before), eq-eqb _ _ (c .before .before .before .if1 .left), eq-eqb _ _ (c .before .before .if2 .left), eq-eqb _ _ (c .before .if3 .left), ne-eqb _ _ (c .if4 .taken))
+
+returns-5 : tie.Need-returns-5
+unfolding any
+returns-5 c = rw (tests (c .before .before .before .before .before), eq-eqb _ _ (c .before .before .before .before .if1 .left), eq-eqb _ _ (c .before .before .before .if2 .left), eq-eqb _ _ (c .before .before .if3 .left), eq-eqb _ _ (c .before .if4 .left), ne-eqb _ _ (c .if5 .taken))
+
+returns-6 : tie.Need-returns-6
+unfolding any
+returns-6 c = rw (tests (c .before .before .before .before .before), eq-eqb _ _ (c .before .before .before .before .if1 .left), eq-eqb _ _ (c .before .before .before .if2 .left), eq-eqb _ _ (c .before .before .if3 .left), eq-eqb _ _ (c .before .if4 .left), eq-eqb _ _ (c .if5 .left))
+
+pub layout-not-tight-spec : {M : Type 1} → statement M
+layout-not-tight-spec =
+    tie.close
+    (tie.spec
+    process-count-requires
+    cast-sections-at
+    mul-sections-at
+    add-sections-at
+    section-count-requires
+    cast-regions-at
+    mul-regions-at
+    add-regions-at
+    region-count-requires
+    cast-length
+    mul-length
+    add-length
+    word-requires
+    word-requires-2
+    cast-section-offset
+    word-requires-3
+    cast-region-offset
+    word-requires-4
+    cast-length-field
+    returns
+    returns-2
+    returns-3
+    returns-4
+    returns-5
+    returns-6)

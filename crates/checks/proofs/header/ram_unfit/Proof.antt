@@ -1,0 +1,32 @@
+use borrow.Author.Tests.{eq-eqb, le-ltb, lt-ltb, ne-eqb}
+use borrow.Author.Needs.{needs}
+use Rattle.notation.specs.Choice.{any}
+use Rattle.rules.specs.Refusals.{ramUnfit}
+use Rattle.checks.proofs.header.ram_unfit.Statement.{statement}
+use Rattle.checks.proofs.header.ram_unfit.Tie as tie
+
+returns : tie.Need-returns
+unfolding ramUnfit any
+returns c = rw (ne-eqb _ _ (c .if1 .taken))
+
+returns-2 : tie.Need-returns-2
+unfolding ramUnfit any
+returns-2 c = rw (eq-eqb _ _ (c .before .if1 .left), lt-ltb _ _ (c .if2 .taken))
+
+returns-3 : tie.Need-returns-3
+unfolding ramUnfit any
+returns-3 c = rw (eq-eqb _ _ (c .before .before .if1 .left), le-ltb _ _ (c .before .if2 .left), ne-eqb _ _ (c .if3 .taken))
+
+add-if4 : tie.Need-add-if4
+add-if4 c = search needs
+
+returns-4 : tie.Need-returns-4
+unfolding ramUnfit any
+returns-4 c = rw (eq-eqb _ _ (c .before .before .before .if1 .left), le-ltb _ _ (c .before .before .if2 .left), eq-eqb _ _ (c .before .if3 .left), lt-ltb _ _ (c .if4 .taken))
+
+returns-5 : tie.Need-returns-5
+unfolding ramUnfit any
+returns-5 c = rw (eq-eqb _ _ (c .before .before .before .if1 .left), le-ltb _ _ (c .before .before .if2 .left), eq-eqb _ _ (c .before .if3 .left), le-ltb _ _ (c .if4 .left))
+
+pub ram-unfit-spec : {M : Type 1} → statement M
+ram-unfit-spec = tie.close (tie.spec returns returns-2 returns-3 add-if4 returns-4 returns-5)

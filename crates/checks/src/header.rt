@@ -1,0 +1,100 @@
+// Refusals 1, 3, 4 and 5: RAM's place and size, the format, the counts, and the layout.
+ghost use mathlib.Core.List.{[], _∷_};
+ghost use mathlib.Core.Path.{_≡_};
+ghost use Rattle.notation.specs.Choice.{any};
+ghost use Rattle.rules.specs.Refusals.{ramUnfit, formatUnknown, outside, countsOutOfBounds, layoutNotTight};
+
+// Refusal 1, for RAM of `ram` bytes from `start` on.
+pub(crate) fn ram_unfit(start: u32, ram: usize) -> bool
+    ensures { λ r. ⌜ r ≡ ramUnfit start ram ⌝ }
+{
+    if ram % 4096 != 0 {
+        return true;
+    }
+    if 4096 < ram / 4096 {
+        return true;
+    }
+    if start % 4096 != 0 {
+        return true;
+    }
+    if 0x1_0000_0000 < start as u64 + ram as u64 {
+        return true;
+    }
+    false
+}
+
+// Refusal 3.
+pub(crate) fn format_unknown(block: &[u8]) -> bool
+    ensures { λ r. ⌜ r ≡ formatUnknown (now (block .entry)) ⌝ }
+{
+    slices::word(block, 0) != 1
+}
+
+// n is outside the bounds lo to hi.
+fn is_outside(lo: u32, hi: u32, n: u32) -> bool
+    ensures { λ r. ⌜ r ≡ outside lo hi n ⌝ }
+{
+    if n < lo {
+        return true;
+    }
+    if hi < n {
+        return true;
+    }
+    false
+}
+
+// p, s or r is outside its bounds.
+fn are_outside(p: u32, s: u32, r: u32) -> bool
+    ensures { λ x. ⌜ x ≡ any (outside 1 16 p ∷ outside 1 64 s ∷ outside 0 32 r ∷ []) ⌝ }
+{
+    if is_outside(1, 16, p) {
+        return true;
+    }
+    if is_outside(1, 64, s) {
+        return true;
+    }
+    if is_outside(0, 32, r) {
+        return true;
+    }
+    false
+}
+
+// Refusal 4.
+pub(crate) fn counts_out_of_bounds(block: &[u8]) -> bool
+    ensures { λ r. ⌜ r ≡ countsOutOfBounds (now (block .entry)) ⌝ }
+{
+    are_outside(
+        records::process_count(block),
+        records::section_count(block),
+        records::region_count(block),
+    )
+}
+
+// Refusal 5.
+pub(crate) fn layout_not_tight(block: &[u8]) -> bool
+    ensures { λ r. ⌜ r ≡ layoutNotTight (now (block .entry)) ⌝ }
+{
+    let sections_at = 32 + 16 * (records::process_count(block) as usize);
+    let regions_at = sections_at + 16 * (records::section_count(block) as usize);
+    let length = regions_at + 8 * (records::region_count(block) as usize);
+    let process_offset = slices::word(block, 12);
+    let section_offset = slices::word(block, 20) as usize;
+    let region_offset = slices::word(block, 28) as usize;
+    let length_field = slices::word(block, 4) as usize;
+    if process_offset != 32 {
+        return true;
+    }
+    if section_offset != sections_at {
+        return true;
+    }
+    if region_offset != regions_at {
+        return true;
+    }
+    if length_field != length {
+        return true;
+    }
+    if block.len() != length {
+        return true;
+    }
+    false
+}
