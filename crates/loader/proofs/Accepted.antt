@@ -36,9 +36,10 @@ pub accepted-fits : (b flash : List ℕ) (start : ℕ) (ram : List ℕ) (v : Ver
 accepted-fits b flash start ram v e z =
     let d : Boot b start (length ram) = boot b flash start ram (booted b flash start ram v e z) in
     let f : (processCount b ≤ 16) × (length ram / 4096 ≤ 4096)
-        = few b (length flash) start (length ram) (boots-where-no-cause-holds b (length flash) start (length ram) .0 (ap (λ (v : Verdict). v .number) (sym e) ∙ z)) in
-    ( record { some-process = d .processes; few-processes = f .0; few-pages = f .1; end = d .room .end; enough = d .room .enough }
-    , d .whole )
+    = few b (length flash) start (length ram) (boots-where-no-cause-holds b (length flash) start (length ram) .0 (ap (λ (v : Verdict). v .number) (sym e) ∙ z)) in (
+      record { some-process = d .processes; few-processes = f .0; few-pages = f .1; end = d .room .end; enough = d .room .enough },
+      d .whole,
+    )
 
 pub tracker-few : (b : List ℕ) (base N : ℕ) → Fits b base N → trackerPages b N ≤ 4096
 tracker-few b base N f = omega (arith, needed-parts b N, f .enough, f .few-pages)
@@ -50,14 +51,14 @@ free-le b N free e = omega arith
 -- THE ANSWERS
 pub refused-answer : (b flash : List ℕ) (start : ℕ) (ram : List ℕ) (v : Verdict) → v ≡ verdict b (length flash) start (length ram) → v .number ≢ 0
     → (record { number = v .number; place = v .place; taken = 0; free = 0; tracker = 0 } ≡ answer b (length flash) start (length ram))
-      × (ram ≡ ramAfter b flash start ram)
+    × (ram ≡ ramAfter b flash start ram)
 unfolding answer answerTo ramAfter boots
 refused-answer b flash start ram v e n = rw (← e) (sym (choose-no _ _ (ne-eqb (v .number) 0 n)), sym (choose-no _ _ (ne-eqb (v .number) 0 n)))
 
 pub boot-answer : (b flash : List ℕ) (start : ℕ) (ram r : List ℕ) (v : Verdict) (free tracker : ℕ) → v ≡ verdict b (length flash) start (length ram) → v .number ≡ 0
     → Fits b (start / 4096) (length ram / 4096) → free ≡ freePages b (length ram / 4096) → tracker ≡ trackerPages b (length ram / 4096) → r ≡ loaded b flash start ram
     → (record { number = 0; place = 0; taken = length ram / 4096 - free; free = free; tracker = tracker } ≡ answer b (length flash) start (length ram))
-      × (r ≡ ramAfter b flash start ram)
+    × (r ≡ ramAfter b flash start ram)
 unfolding answer answerTo ramAfter boots
 boot-answer b flash start ram r v free tracker e z f ef et er =
     let t : length ram / 4096 - free ≡ pagesNeeded b (length ram / 4096) = taken (length ram / 4096) (pagesNeeded b (length ram / 4096)) free (unfold freePages in ef) (f .enough) in

@@ -49,7 +49,7 @@ tables-place b N n₂ n₃ n₄ e₂ e₃ e₄ = omega (arith, tables-before-non
 -- ALL PARTS
 joined : (b : List ℕ) (T : ℕ)
     → (((allSections b ++ tab T (λ i. holds (trackerPage i))) ++ (holds processList ∷ [])) ++ (holds blockCopy ∷ [])) ++ gather (processCount b) (λ i. tableUses b (i + 1))
-      ≡ belowTop b T
+    ≡ belowTop b T
 unfolding allSections belowTop
 joined b T = simp append-assoc
 
@@ -68,7 +68,6 @@ module _ (b flash : List ℕ) (start : ℕ) (ram r₁ r₂ r₃ r₄ r₅ : List
     (p₄ : r₄ ≡ put r₃ (n₃ - 1) (content b flash (start / 4096) (length ram / 4096) (holds blockCopy)))
     (l₅ : n₅ ≡ n₄ - tablesBefore b (processCount b))
     (p₅ : r₅ ≡ writeUses (content b flash (start / 4096) (length ram / 4096)) r₄ n₄ (gather (processCount b) (λ i. tableUses b (i + 1)))) where
-
   all-written : Wrote (content b flash (start / 4096) (length ram / 4096)) (belowTop b (trackerPages b (length ram / 4096))) ram (length ram / 4096 - 4) r₅ n₅
   all-written =
       let N : ℕ = length ram / 4096 in
@@ -85,9 +84,10 @@ module _ (b flash : List ℕ) (start : ℕ) (ram r₁ r₂ r₃ r₄ r₅ : List
 
   pub pages-end : (n₅ ≡ freePages b (length ram / 4096)) × (r₅ ≡ loaded b flash start ram)
   unfolding freePages pagesNeeded uses
-  pages-end =
-      ( free-left _ _ _ _ (all-written .left) (below-top-length b (trackerPages b (length ram / 4096)))
-      , all-written .bytes ∙ written-is-loaded b flash start ram whole (fits .enough) )
+  pages-end = (
+    free-left _ _ _ _ (all-written .left) (below-top-length b (trackerPages b (length ram / 4096))),
+    all-written .bytes ∙ written-is-loaded b flash start ram whole (fits .enough),
+  )
 
 pub list-room : (c c′ : Use → ℕ → ℕ) (us vs : List Use) (ram r₁ r₂ : List ℕ) (n k m x : ℕ) → r₁ ≡ writeUses c ram k us → r₂ ≡ writeUses c′ r₁ m vs
     → n ≡ length ram / 4096 - x → 4096 * n ≤ length r₂

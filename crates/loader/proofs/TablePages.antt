@@ -129,11 +129,11 @@ root-leaf : (b : List ℕ) (base N q first kernel m : ℕ) → LeavesAt b base N
     → choose (hasLeaf b q m) (pointerEntry ((first - leavesBelow b q m) % 0x40_0000)) 0 ≡ choose (hasLeaf b q m) (pointerEntry (physPage b base N (leafTable q m))) absentEntry
 unfolding choose absentEntry
 root-leaf b base N q first kernel m at h = by-test (λ c. hasLeaf b q m ≡ c
-      → choose c (pointerEntry ((first - leavesBelow b q m) % 0x40_0000)) 0 ≡ choose c (pointerEntry (physPage b base N (leafTable q m))) 0)
+    → choose c (pointerEntry ((first - leavesBelow b q m) % 0x40_0000)) 0 ≡ choose c (pointerEntry (physPage b base N (leafTable q m))) 0)
     (hasLeaf b q m)
     (λ _ e.
-      let l : first - leavesBelow b q m < 0x40_0000 = omega (arith, at .small) in
-      rw (at .leaf m h e, mod-eq-of-lt l))
+    let l : first - leavesBelow b q m < 0x40_0000 = omega (arith, at .small) in
+    rw (at .leaf m h e, mod-eq-of-lt l))
     (λ _ e. refl)
     refl
 
@@ -146,20 +146,22 @@ root-page b base N q r marks e e₁ e₂ k first kernel pointer at em ez e1 ep e
     let n : length e ≡ 1024 = ap length ez ∙ tab-length 1024 _ in
     let n₁ : length e₁ ≡ 1024 = ap length e1 ∙ tab-length (length e) _ ∙ n in
     let l : kernel < 0x40_0000 = at .kernel-small in
-    p ∙ table-put r k _ _ (λ m h. elim (ℕ-discrete m 1023)
-      [ yes z ↦ rw (e2, z) (getD-set-same e₁ 1023 pointer 0 (omega arith) ∙ ep ∙ rw (mod-eq-of-lt l, at .kernel-leaf) (sym (choose-yes _ _ (eq-eqb 1023 1023 refl))))
+    p ∙ table-put r k _ _ (λ m h. elim (ℕ-discrete m 1023) [
+      | yes z ↦ rw (e2, z) (getD-set-same e₁ 1023 pointer 0 (omega arith) ∙ ep ∙ rw (mod-eq-of-lt l, at .kernel-leaf) (sym (choose-yes _ _ (eq-eqb 1023 1023 refl))))
       | no z ↦
           rw e2 (getD-set-other e₁ 1023 m pointer 0 z ∙ rw e1 (tab-get (length e) _ m 0 (omega arith)
           ∙ rw (em, marked-is b q m h, below-is b q m h, ez, tab-get {A = ℕ} 1024 (λ i. 0) m 0 h)
-          (root-leaf b base N q first kernel m at h ∙ sym (choose-no _ _ (ne-eqb m 1023 z))))) ])
+          (root-leaf b base N q first kernel m at h ∙ sym (choose-no _ _ (ne-eqb m 1023 z)))))
+    ])
 
 -- ROOM FOR THE TABLES
 sum-at : (n k : ℕ) (f : ℕ → ℕ) → k < n → sum k f + f k ≤ sum n f
 unfolding sum
 sum-at zero k f h = absurd (omega arith)
-sum-at (suc n) k f h = elim (decLt k n)
-    [ yes l ↦ omega (arith, sum-at n k f l)
-    | no l ↦ let e : k ≡ n = omega arith in rw e (omega arith) ]
+sum-at (suc n) k f h = elim (decLt k n) [
+  | yes l ↦ omega (arith, sum-at n k f l)
+  | no l ↦ let e : k ≡ n = omega arith in rw e (omega arith)
+]
 
 leaf-below : (b : List ℕ) (q m : ℕ) → m < 1024 → hasLeaf b q m ≡ true → leavesBelow b q m < leavesBelow b q 1024
 unfolding leavesBelow
@@ -179,16 +181,17 @@ kernel-below b = sum-zero 1023 _ (λ k h. one-no (ne-eqb k 1023 (λ e. omega ari
 
 -- the root and at least one leaf
 two-tables : (b : List ℕ) (q : ℕ) → 1 ≤ leavesBelow b q 1024
-two-tables b q = elim (ℕ-discrete q 1)
-    [ yes e ↦ rw e (omega (arith, leaf-below b 1 1023 (omega arith) (kernel-slot b)))
-    | no e ↦ omega (arith, leaf-below b q 511 (omega arith) (stack-slot b q e)) ]
+two-tables b q = elim (ℕ-discrete q 1) [
+  | yes e ↦ rw e (omega (arith, leaf-below b 1 1023 (omega arith) (kernel-slot b)))
+  | no e ↦ omega (arith, leaf-below b q 511 (omega arith) (stack-slot b q e))
+]
 
 pub room : (b : List ℕ) (base N q : ℕ) → Fits b base N → 1 ≤ q → q ≤ processCount b → rootPlace b (trackerPages b N) q + tableCount b q ≤ N
 unfolding rootPlace tablesBefore pagesNeeded uses
 room b base N q f lo hi =
     let s : q - 1 + 1 ≡ q = omega arith in
     let t : sum (q - 1) (λ i. tableCount b (i + 1)) + tableCount b (q - 1 + 1) ≤ sum (processCount b) (λ i. tableCount b (i + 1))
-        = sum-at (processCount b) (q - 1) (λ i. tableCount b (i + 1)) (omega arith) in
+    = sum-at (processCount b) (q - 1) (λ i. tableCount b (i + 1)) (omega arith) in
     let u : sum (q - 1) (λ i. tableCount b (i + 1)) + tableCount b q ≤ sum (processCount b) (λ i. tableCount b (i + 1)) = rw s at t in
     omega (arith, f .enough, order-count b (trackerPages b N))
 
@@ -218,11 +221,12 @@ kernel-at b base N left f l =
 pub leaves-at : (b : List ℕ) (base N q left kernel : ℕ) → Fits b base N → 1 ≤ q → q ≤ processCount b
     → kernel ≡ physPage b base N (leafTable 1 1023) → left ≡ N - rootPlace b (trackerPages b N) q
     → LeavesAt b base N q (base + left - 2) kernel
-leaves-at b base N q left kernel f lo hi k l = record
-    { leaf = λ m h e. leaf-phys b base N q m left f lo hi l h e
-    ; small = omega (arith, f .end)
-    ; kernel-leaf = k
-    ; kernel-small = rw k (phys-small b base N _ f) }
+leaves-at b base N q left kernel f lo hi k l = record {
+  leaf = λ m h e. leaf-phys b base N q m left f lo hi l h e;
+  small = omega (arith, f .end);
+  kernel-leaf = k;
+  kernel-small = rw k (phys-small b base N _ f);
+}
 
 -- THE TABLES OF ONE PROCESS
 pub process-tables : (b : List ℕ) (base N q : ℕ) (r₀ r₁ : List ℕ) (n₀ k : ℕ) {n₁ : ℕ} {r : List ℕ} {n : ℕ}

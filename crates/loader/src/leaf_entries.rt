@@ -11,7 +11,10 @@ ghost use Rattle.rules.specs.Tables.{leafEntry};
 ghost use Rattle.rules.specs.Load.{physPage};
 ghost use Rattle.loader.specs.Fits.{Fits};
 ghost use Rattle.loader.specs.LeafEntries.{entriesOf, trackerMapped};
-use crate::places::{page_at, section_place, tracker_pages, tracker_place};
+use crate::places::page_at;
+use crate::places::section_place;
+use crate::places::tracker_pages;
+use crate::places::tracker_place;
 use types::PhysPage;
 
 // The entry of the kernel's leaf table for 0xFFF00000.

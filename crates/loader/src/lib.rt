@@ -9,7 +9,6 @@ ghost use Rattle.rules.specs.Load.{loaded, answer, ramAfter};
 ghost use Rattle.writing.specs.Pages.{put};
 ghost use Rattle.writing.specs.Loaded.{content};
 ghost use Rattle.loader.specs.Fits.{Fits};
-
 use pages::PageAllocator;
 use types::Answer;
 

@@ -16,7 +16,6 @@ ghost use Rattle.writing.specs.Uses.{writeUses};
 ghost use Rattle.writing.specs.Loaded.{content};
 ghost use Rattle.loader.specs.Fits.{Fits};
 ghost use Rattle.loader.specs.TablePages.{leafUses, LeavesAt};
-
 use crate::leaf_entries::leaf_entries;
 use pages::PageAllocator;
 use types::PhysPage;
@@ -35,7 +34,17 @@ fn store(ram: &mut [u8], k: RamPage, entries: &[u32])
 
 // The root table of process q into RAM page k. Its leaf tables, for the marked root slots, lie from physical page `first`
 // downwards; the last entry points to the kernel's leaf table.
-fn load_root(ram: &mut [u8], k: RamPage, block: &[u8], base: u32, pages: u32, q: u32, marks: &[u8], first: PhysPage, kernel_leaf: PhysPage)
+fn load_root(
+    ram: &mut [u8],
+    k: RamPage,
+    block: &[u8],
+    base: u32,
+    pages: u32,
+    q: u32,
+    marks: &[u8],
+    first: PhysPage,
+    kernel_leaf: PhysPage,
+)
     requires { ⌜ LeavesAt (now block) base pages q (first .0) («kernel_leaf» .0) × (now marks ≡ leafMarks (now block) q 1024) ⌝ }
     ensures { λ _. ⌜ now (ram .exit) ≡ put (now (ram .entry)) (k .0) (tableByte (rootEntry (now (block .entry)) (physPage (now (block .entry)) base pages) q)) ⌝ }
 {
@@ -56,7 +65,16 @@ fn load_leaf(ram: &mut [u8], k: RamPage, block: &[u8], base: u32, pages: u32, q:
 }
 
 // The leaf table for root slot m where it is marked, in the next page.
-fn load_marked(ram: &mut [u8], block: &[u8], base: u32, pages: u32, q: u32, m: u32, mark: u8, from: PageAllocator) -> PageAllocator
+fn load_marked(
+    ram: &mut [u8],
+    block: &[u8],
+    base: u32,
+    pages: u32,
+    q: u32,
+    m: u32,
+    mark: u8,
+    from: PageAllocator,
+) -> PageAllocator
     requires { ⌜ Fits (now block) base pages × (1 ≤ q) × (q ≤ processCount (now block)) × (m < 1024) × (mark ≡ getD (leafMarks (now block) q 1024) m 0) ⌝ }
     ensures { λ r. ⌜ (r .left ≡ from .left - length (leafUses (now (block .entry)) q m))
         × ((flash : List ℕ) → now (ram .exit) ≡ writeUses (content (now (block .entry)) flash base pages) (now (ram .entry)) (from .left) (leafUses (now (block .entry)) q m)) ⌝ }
@@ -70,7 +88,15 @@ fn load_marked(ram: &mut [u8], block: &[u8], base: u32, pages: u32, q: u32, m: u
 }
 
 // The leaf tables of process q, rising.
-fn load_leaves(ram: &mut [u8], block: &[u8], base: u32, pages: u32, q: u32, marks: &[u8], from: PageAllocator) -> PageAllocator
+fn load_leaves(
+    ram: &mut [u8],
+    block: &[u8],
+    base: u32,
+    pages: u32,
+    q: u32,
+    marks: &[u8],
+    from: PageAllocator,
+) -> PageAllocator
     requires { ⌜ Fits (now block) base pages × (1 ≤ q) × (q ≤ processCount (now block)) × (now marks ≡ leafMarks (now block) q 1024) ⌝ }
     ensures { λ r. ⌜ (r .left ≡ from .left - length (gather 1024 (leafUses (now (block .entry)) q)))
         × ((flash : List ℕ) → now (ram .exit) ≡ writeUses (content (now (block .entry)) flash base pages) (now (ram .entry)) (from .left) (gather 1024 (leafUses (now (block .entry)) q))) ⌝ }
@@ -86,7 +112,15 @@ fn load_leaves(ram: &mut [u8], block: &[u8], base: u32, pages: u32, q: u32, mark
 }
 
 // The tables of process q: its root, then its leaves.
-fn load_process_tables(ram: &mut [u8], block: &[u8], base: u32, pages: u32, q: u32, kernel_leaf: PhysPage, from: PageAllocator) -> PageAllocator
+fn load_process_tables(
+    ram: &mut [u8],
+    block: &[u8],
+    base: u32,
+    pages: u32,
+    q: u32,
+    kernel_leaf: PhysPage,
+    from: PageAllocator,
+) -> PageAllocator
     requires { ⌜ Fits (now block) base pages × (1 ≤ q) × (q ≤ processCount (now block)) × («kernel_leaf» .0 ≡ physPage (now block) base pages (leafTable 1 1023))
         × (from .left ≡ pages - rootPlace (now block) (trackerPages (now block) pages) q) ⌝ }
     ensures { λ r. ⌜ (r .left ≡ from .left - length (tableUses (now (block .entry)) q))
@@ -96,12 +130,28 @@ fn load_process_tables(ram: &mut [u8], block: &[u8], base: u32, pages: u32, q: u
     leaves::leaf_marks(block, q, &mut marks);
     let got = from.allocate();
     let first = PhysPage(base + from.left - 2);
-    load_root(ram, got.page, block, base, pages, q, &marks, first, kernel_leaf);
+    load_root(
+        ram,
+        got.page,
+        block,
+        base,
+        pages,
+        q,
+        &marks,
+        first,
+        kernel_leaf,
+    );
     load_leaves(ram, block, base, pages, q, &marks, got.rest)
 }
 
 // The tables of all processes, the kernel's first.
-pub(crate) fn load_tables(ram: &mut [u8], block: &[u8], base: u32, pages: u32, from: PageAllocator) -> PageAllocator
+pub(crate) fn load_tables(
+    ram: &mut [u8],
+    block: &[u8],
+    base: u32,
+    pages: u32,
+    from: PageAllocator,
+) -> PageAllocator
     requires { ⌜ Fits (now block) base pages × (from .left ≡ pages - rootPlace (now block) (trackerPages (now block) pages) 1) ⌝ }
     ensures { λ r. ⌜ (r .left ≡ from .left - tablesBefore (now (block .entry)) (processCount (now (block .entry))))
         × ((flash : List ℕ) → now (ram .exit) ≡ writeUses (content (now (block .entry)) flash base pages) (now (ram .entry)) (from .left) (gather (processCount (now (block .entry))) (λ i. tableUses (now (block .entry)) (i + 1)))) ⌝ }

@@ -1,3 +1,4 @@
+use Rattle.loader.proofs.Accepted.{accepted-fits, tracker-few, free-le, refused-answer, boot-answer}
 use native.Mathlib.Omega.{arith}
 use borrow.Author.Needs.{needs}
 use Rattle.loader.proofs.load.Statement.{statement}
@@ -12,25 +13,46 @@ check-requires : tie.Need-check-requires
 check-requires c κs = search needs
 
 returns : tie.Need-returns
-returns c = search needs
+returns c =
+    let checked = c .before .before in
+    let start = checked .before .before .before .before in
+    refused-answer _ (start .args .flash .now) _ (start .args .ram .now) _ (checked .check .ensures) (c .if1 .taken)
 
 cast-pages : tie.Need-cast-pages
-cast-pages c = search needs
+cast-pages c =
+    let checked = c .before .before in
+    let start = checked .before .before .before .before in
+    let ok = accepted-fits (start .args .block .now) (start .args .flash .now) (start .args .start) (start .args .ram .now) _ (checked .check .ensures) (c .if1 .left) in
+    omega (arith, ok .0 .few-pages)
 
 tracker-pages-requires : tie.Need-tracker-pages-requires
-tracker-pages-requires c κs = search needs
+tracker-pages-requires c κs =
+    let checked = c .before .before in
+    let start = checked .before .before .before .before in
+    let ok = accepted-fits (start .args .block .now) (start .args .flash .now) (start .args .start) (start .args .ram .now) _ (checked .check .ensures) (c .if1 .left) in
+    tracker-few _ _ _ (ok .0)
 
 load-pages-requires : tie.Need-load-pages-requires
-load-pages-requires c κs = search needs
+load-pages-requires c κs =
+    let checked = c .before .before .before .before in
+    let start = checked .before .before .before .before in
+    let ok = accepted-fits (start .args .block .now) (start .args .flash .now) (start .args .start) (start .args .ram .now) _ (checked .check .ensures) (c .before .before .if1 .left) in
+    ok
 
 sub-t14 : tie.Need-sub-t14
-sub-t14 c = search needs
+sub-t14 c = free-le _ _ _ (c .before .before .load-pages .ensures .0)
 
 same-length : tie.Need-same-length
 same-length c = search needs
 
 returns-2 : tie.Need-returns-2
-returns-2 c = search needs
+returns-2 c =
+    let checked = c .before .before .before .before .before .before .before in
+    let start = checked .before .before .before .before in
+    let ok = accepted-fits (start .args .block .now) (start .args .flash .now) (start .args .start) (start .args .ram .now) _ (checked .check .ensures) (c .before .before .before .before .before .if1 .left) in
+    let loaded = c .before .before in
+    boot-answer _ (start .args .flash .now) _ (start .args .ram .now) _ _ _ _ (checked .check .ensures) (c .before .before .before .before .before .if1 .left)
+    (ok .0) (loaded .load-pages .ensures .0) (loaded .before .before .tracker-pages .ensures) (loaded .load-pages .ensures .1)
 
 pub load-spec : {M : Type 1} → statement M
 load-spec =

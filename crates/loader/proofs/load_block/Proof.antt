@@ -47,9 +47,11 @@ returns : tie.Need-returns
 returns c =
     let page = c .before .before .before in
     let at = page .before .before in
-    let got = at .before .before .before .allocate .ensures in
-    (got .1, λ flash base N. block-content _ flash base N _ _ _ _ (got .0)
-      (put-part _ _ _ _ _ _ (at .before .least .ensures) (at .least2 .ensures) (page .block-page .ensures)))
+    let got = at .before .before .before .allocate .ensures in (
+      got .1,
+      λ flash base N. block-content _ flash base N _ _ _ _ (got .0)
+          (put-part _ _ _ _ _ _ (at .before .least .ensures) (at .least2 .ensures) (page .block-page .ensures)),
+    )
 
 pub load-block-spec : {M : Type 1} → statement M
 load-block-spec =

@@ -61,4 +61,5 @@ section-misplaced-spec =
     range-last-requires
     record-misplaced-requires
     returns)
+
 -- x

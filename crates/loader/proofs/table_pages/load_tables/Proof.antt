@@ -37,9 +37,13 @@ add-load-process-tables c = search needs
 load-process-tables-requires : tie.Need-load-process-tables-requires Inv-loop μ-loop
 load-process-tables-requires c κs =
     let loop = c .before .before in
-    let pre = loop .before .before .before .before .before .pre in
-    (pre .0, search needs, omega (arith, c .before .loop-test .taken, loop .before .process-count .ensures), kernel-at _ _ _ _ (pre .0) (pre .1),
-    next-place _ _ _ _ (pre .1) (loop .loop .inv .1))
+    let pre = loop .before .before .before .before .before .pre in (
+      pre .0,
+      search needs,
+      omega (arith, c .before .loop-test .taken, loop .before .process-count .ensures),
+      kernel-at _ _ _ _ (pre .0) (pre .1),
+      next-place _ _ _ _ (pre .1) (loop .loop .inv .1),
+    )
 
 add-i : tie.Need-add-i Inv-loop μ-loop
 add-i c = search needs
