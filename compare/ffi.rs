@@ -1,0 +1,251 @@
+//! The three C entries of the library, and areas to lend to them with guard bytes on both sides.
+
+use crate::walker::Found;
+use std::sync::atomic::{AtomicU64, Ordering};
+
+extern "C" {
+    fn rigpollen_load(
+        block: *const u8,
+        block_len: usize,
+        flash: *const u8,
+        flash_len: usize,
+        ram: *mut u8,
+        ram_len: usize,
+        ram_start: u32,
+    ) -> u32;
+    fn rigpollen_answer(
+        block: *const u8,
+        block_len: usize,
+        flash: *const u8,
+        flash_len: usize,
+        ram: *mut u8,
+        ram_len: usize,
+        ram_start: u32,
+        answer: *mut u32,
+        answer_len: usize,
+    ) -> u32;
+    fn rigpollen_walk(
+        ram: *const u8,
+        ram_len: usize,
+        ram_start: u32,
+        root: u32,
+        address: u32,
+        page: *mut u32,
+        page_len: usize,
+    ) -> u32;
+}
+
+/// More than a page of guard on each side, so that a store one page off is seen too.
+const GUARD: usize = 4096 + 64;
+
+fn guard_byte(at: usize) -> u8 {
+    (at as u8).wrapping_mul(29) ^ 0xa5
+}
+
+/// A byte area to be lent, in the middle of guard bytes.
+pub struct Lent {
+    all: Vec<u8>,
+    from: usize,
+    len: usize,
+}
+
+impl Lent {
+    /// `shift` moves the area in memory, so that it does not always start on an even address.
+    pub fn new(bytes: &[u8], shift: usize) -> Lent {
+        let from = GUARD + shift;
+        let mut all = Vec::with_capacity(from + bytes.len() + GUARD);
+        all.extend((0..from).map(guard_byte));
+        all.extend_from_slice(bytes);
+        all.extend((all.len()..all.len() + GUARD).map(guard_byte));
+        Lent {
+            all,
+            from,
+            len: bytes.len(),
+        }
+    }
+
+    pub fn bytes(&self) -> &[u8] {
+        &self.all[self.from..self.from + self.len]
+    }
+
+    pub fn bytes_mut(&mut self) -> &mut [u8] {
+        &mut self.all[self.from..self.from + self.len]
+    }
+
+    /// Where a guard byte has changed, counted from the start of the area; none if all are as they were.
+    pub fn changed_guard(&self) -> Option<i64> {
+        let end = self.from + self.len;
+        (0..self.from)
+            .chain(end..self.all.len())
+            .find(|&at| self.all[at] != guard_byte(at))
+            .map(|at| at as i64 - self.from as i64)
+    }
+
+    fn start(&mut self) -> *mut u8 {
+        self.bytes_mut().as_mut_ptr()
+    }
+}
+
+/// What lies in the words around and in an `answer` or `page` slice before a call.
+fn word_pattern(at: usize) -> u32 {
+    0xc3a5_0f00 + at as u32
+}
+
+/// Where the slice begins among the words.
+pub const ANSWER_AT: usize = 4;
+/// The words of an `answer` slice of up to 7 words, with guard words on both sides.
+pub type AnswerWords = [u32; 15];
+
+/// What the words must be after `rigpollen_answer` with a slice of `len` words.
+pub fn answer_words(answer: &[u32; 5], len: usize) -> AnswerWords {
+    std::array::from_fn(|at| match at.checked_sub(ANSWER_AT) {
+        Some(i) if i < len.min(5) => answer[i],
+        _ => word_pattern(at),
+    })
+}
+
+const PAGE_AT: usize = 2;
+/// The words of a `page` slice of up to 3 words, with guard words on both sides.
+pub type PageWords = [u32; 7];
+
+/// What the words must be after `rigpollen_walk` with a slice of `len` words, and the number it returns.
+pub fn page_words(found: Found, len: usize) -> (u32, PageWords) {
+    let mut words: PageWords = std::array::from_fn(word_pattern);
+    let number = match found {
+        Found::Absent => 0,
+        Found::Reserved => 1,
+        Found::Page { rights, number } => {
+            let answer = [rights, number];
+            let fit = len.min(2);
+            words[PAGE_AT..PAGE_AT + fit].copy_from_slice(&answer[..fit]);
+            2
+        }
+    };
+    (number, words)
+}
+
+pub fn load(block: &mut Lent, flash: &mut Lent, ram: &mut Lent, start: u32) -> u32 {
+    // Each pointer and length names one area that lives until after the call.
+    unsafe {
+        rigpollen_load(
+            block.start(),
+            block.len,
+            flash.start(),
+            flash.len,
+            ram.start(),
+            ram.len,
+            start,
+        )
+    }
+}
+
+pub fn answer(
+    block: &mut Lent,
+    flash: &mut Lent,
+    ram: &mut Lent,
+    start: u32,
+    len: usize,
+) -> (u32, AnswerWords) {
+    let mut words: AnswerWords = std::array::from_fn(word_pattern);
+    let slice = &mut words[ANSWER_AT..ANSWER_AT + len];
+    // As above; `slice` has `len` words.
+    let number = unsafe {
+        rigpollen_answer(
+            block.start(),
+            block.len,
+            flash.start(),
+            flash.len,
+            ram.start(),
+            ram.len,
+            start,
+            slice.as_mut_ptr(),
+            len,
+        )
+    };
+    (number, words)
+}
+
+pub fn walk(ram: &mut Lent, start: u32, root: u32, address: u32, len: usize) -> (u32, PageWords) {
+    let mut words: PageWords = std::array::from_fn(word_pattern);
+    let slice = &mut words[PAGE_AT..PAGE_AT + len];
+    // As above; `slice` has `len` words.
+    let number = unsafe {
+        rigpollen_walk(
+            ram.start(),
+            ram.len,
+            start,
+            root,
+            address,
+            slice.as_mut_ptr(),
+            len,
+        )
+    };
+    (number, words)
+}
+
+/// The library's walk as one answer; none if the number is none of the three.
+pub fn found(ram: &mut Lent, start: u32, root: u32, address: u32) -> Option<Found> {
+    let (number, words) = walk(ram, start, root, address, 2);
+    match number {
+        0 => Some(Found::Absent),
+        1 => Some(Found::Reserved),
+        2 => Some(Found::Page {
+            rights: words[PAGE_AT],
+            number: words[PAGE_AT + 1],
+        }),
+        _ => None,
+    }
+}
+
+// If the library ends the program by a signal (a stray store, a failed check of its own), the case
+// must still be named. The handler does no more than write a line and leave.
+
+static SEED: AtomicU64 = AtomicU64::new(0);
+static CASE: AtomicU64 = AtomicU64::new(0);
+
+extern "C" {
+    fn signal(number: i32, handler: extern "C" fn(i32)) -> usize;
+    fn write(file: i32, bytes: *const u8, len: usize) -> isize;
+    fn _exit(status: i32) -> !;
+}
+
+extern "C" fn on_signal(number: i32) {
+    say(b"compare: seed ");
+    say_number(SEED.load(Ordering::Relaxed));
+    say(b" case ");
+    say_number(CASE.load(Ordering::Relaxed));
+    say(b": the program was ended by signal ");
+    say_number(number as u64);
+    say(b" inside this case\n");
+    unsafe { _exit(1) }
+}
+
+fn say(text: &[u8]) {
+    unsafe { write(2, text.as_ptr(), text.len()) };
+}
+
+fn say_number(mut value: u64) {
+    let mut digits = [b'0'; 20];
+    let mut from = digits.len();
+    loop {
+        from -= 1;
+        digits[from] = b'0' + (value % 10) as u8;
+        value /= 10;
+        if value == 0 {
+            break;
+        }
+    }
+    say(&digits[from..]);
+}
+
+pub fn name_case_on_signals() {
+    // SIGILL, SIGTRAP, SIGABRT, SIGBUS, SIGFPE and SIGSEGV of Linux.
+    for number in [4, 5, 6, 7, 8, 11] {
+        unsafe { signal(number, on_signal) };
+    }
+}
+
+pub fn note_case(seed: u64, case: u64) {
+    SEED.store(seed, Ordering::Relaxed);
+    CASE.store(case, Ordering::Relaxed);
+}

@@ -1,0 +1,142 @@
+//! The independent second program: it does by 01's rules what the library does, in another way, and
+//! compares the two on generated inputs. It shares no code and no definitions with the library.
+//!
+//!   compare [--cases N] [--seed S]     compare N cases (20,000)
+//!   compare --seed S --case K          compare case K of that seed alone
+//!   compare --faults [--seed S]        switch 01's faults on here, one at a time: each must be found
+
+mod cases;
+mod check;
+mod demand3;
+mod draft;
+mod ffi;
+mod reader;
+mod rng;
+mod rules;
+mod small;
+mod walker;
+
+use check::Tally;
+use rng::Rng;
+use rules::Fault;
+use std::process::ExitCode;
+
+const SEED: u64 = 20_250;
+const CASES: u64 = 20_000;
+/// Within how many cases a fault must be found.
+const FAULT_CASES: u64 = 500;
+
+struct Options {
+    cases: u64,
+    seed: u64,
+    case: Option<u64>,
+    faults: bool,
+}
+
+fn options() -> Result<Options, String> {
+    let mut options = Options {
+        cases: CASES,
+        seed: SEED,
+        case: None,
+        faults: false,
+    };
+    let mut args = std::env::args().skip(1);
+    while let Some(arg) = args.next() {
+        let mut number = || {
+            let text = args.next().ok_or_else(|| format!("{arg} needs a number"))?;
+            text.parse::<u64>()
+                .map_err(|_| format!("{arg} needs a number, not {text:?}"))
+        };
+        match arg.as_str() {
+            "--cases" => options.cases = number()?,
+            "--seed" => options.seed = number()?,
+            "--case" => options.case = Some(number()?),
+            "--faults" => options.faults = true,
+            _ => {
+                return Err(format!(
+                    "unknown argument {arg:?}; known are --cases N, --seed S, --case K, --faults"
+                ))
+            }
+        }
+    }
+    Ok(options)
+}
+
+fn one_case(seed: u64, number: u64, fault: Fault, tally: &mut Tally) -> Result<(), String> {
+    ffi::note_case(seed, number);
+    let case = cases::generate(seed, number);
+    check::compare(&case, fault, &mut Rng::new(seed, number, 1), tally)
+        .map_err(|error| format!("seed {seed} case {number} ({}): {error}", case.what))
+}
+
+fn compare_cases(options: &Options) -> Result<(), String> {
+    let mut tally = Tally::default();
+    println!("compare: seed {}, {} cases", options.seed, options.cases);
+    for number in 0..options.cases {
+        one_case(options.seed, number, Fault::None, &mut tally)?;
+    }
+    println!("number  cases");
+    for (number, count) in tally.numbers.iter().enumerate() {
+        println!("{number:6}  {count}");
+    }
+    println!("walks compared: {}", tally.walks);
+    println!(
+        "pairs of RAM compared: {} ({} with a longer tracker); refused on the second by 1 or 11: {}",
+        tally.pairs, tally.pairs_longer_tracker, tally.pairs_refused
+    );
+    if let Some(number) = tally.numbers.iter().position(|&count| count == 0) {
+        return Err(format!(
+            "number {number} never came up in {} cases",
+            options.cases
+        ));
+    }
+    println!("compare: {} cases agree", options.cases);
+    Ok(())
+}
+
+/// Each fault must be found, in a case in which the rules without the fault agree with the library.
+fn compare_faults(seed: u64) -> Result<(), String> {
+    for (fault, name) in rules::FAULTS {
+        let difference = (0..FAULT_CASES).find_map(|number| {
+            one_case(seed, number, fault, &mut Tally::default())
+                .err()
+                .map(|error| (number, error))
+        });
+        let Some((number, error)) = difference else {
+            return Err(format!(
+                "fault {name}: not found within {FAULT_CASES} cases of seed {seed}"
+            ));
+        };
+        one_case(seed, number, Fault::None, &mut Tally::default())?;
+        let error = error
+            .replace("\n ", "")
+            .replace("the rules give", "the rules with the fault give");
+        println!("fault {name}: found, {error}");
+    }
+    Ok(())
+}
+
+fn run() -> Result<(), String> {
+    let options = options()?;
+    small::check_rules()?;
+    ffi::name_case_on_signals();
+    match options.case {
+        _ if options.faults => compare_faults(options.seed),
+        Some(number) => {
+            one_case(options.seed, number, Fault::None, &mut Tally::default())?;
+            println!("compare: seed {} case {number} agrees", options.seed);
+            Ok(())
+        }
+        None => compare_cases(&options),
+    }
+}
+
+fn main() -> ExitCode {
+    match run() {
+        Ok(()) => ExitCode::SUCCESS,
+        Err(error) => {
+            eprintln!("compare: {error}");
+            ExitCode::FAILURE
+        }
+    }
+}

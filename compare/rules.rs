@@ -1,0 +1,747 @@
+//! 01's rules for one call of the loader, written a second time.
+//!
+//! The structure is not that of a loader: first what each process sees is worked out from the block
+//! (a map from virtual page to reserved or to rights and a taken page), then the taken pages are put
+//! in 01's order, then the bytes of each are worked out, and last they are laid over RAM.
+
+use std::collections::BTreeMap;
+use std::ops::Range;
+
+pub const PAGE: u64 = 4096;
+const END: u64 = 1 << 32;
+
+pub const NOCOPY: u32 = 1;
+pub const WRITABLE: u32 = 2;
+pub const EXECUTABLE: u32 = 4;
+
+/// Where sections may lie, and what the top of the address space holds.
+pub const USER: Range<u64> = 0x0000_1000..0x7fff_c000;
+pub const KERNEL: Range<u64> = 0xffc0_0000..0xfff0_0000;
+const STACK_PAGES: Range<u32> = 0x7fffc..0x80000;
+const BLOCK_COPY_PAGE: u32 = 0xfff00;
+pub const TRACKER_PAGE: u32 = 0xfff40;
+pub const LIST_PAGE: u32 = 0xfff80;
+/// The root entry of the kernel's leaf table.
+const KERNEL_ENTRY: u32 = 1023;
+
+/// Rights as `rigpollen_walk` numbers them; an entry's flags are these times 2, plus 1.
+const READ: u32 = 1;
+const WRITE: u32 = 2;
+const EXECUTE: u32 = 4;
+const BY_USER: u32 = 8;
+
+/// 01's five faults (the third has two halves), which can be switched on here to try the comparison.
+#[derive(Clone, Copy, PartialEq, Eq)]
+pub enum Fault {
+    None,
+    PartBeforeKept,
+    PagesBySize,
+    LeafPerSection,
+    LeafForStack,
+    CopyThenRefuse,
+    OffsetOfFlash,
+}
+
+pub const FAULTS: [(Fault, &str); 6] = [
+    (
+        Fault::PartBeforeKept,
+        "1 the part of a page before the section is not cleared",
+    ),
+    (
+        Fault::PagesBySize,
+        "2 a section's pages are size / 4,096 rounded up",
+    ),
+    (
+        Fault::LeafPerSection,
+        "3 a leaf table for each section of a 4 MiB block",
+    ),
+    (
+        Fault::LeafForStack,
+        "3 a leaf table for the stack beside the one of block 511",
+    ),
+    (
+        Fault::CopyThenRefuse,
+        "4 copying until RAM runs out, then refusing",
+    ),
+    (
+        Fault::OffsetOfFlash,
+        "5 the sub-page offset is that of flash",
+    ),
+];
+
+/// The RAM that is lent: where it starts and how long it is.
+#[derive(Clone, Copy)]
+pub struct Ram {
+    pub start: u32,
+    pub len: u64,
+}
+
+impl Ram {
+    pub fn pages(self) -> u64 {
+        self.len / PAGE
+    }
+
+    fn from(self) -> u64 {
+        u64::from(self.start)
+    }
+
+    fn to(self) -> u64 {
+        self.from() + self.len
+    }
+}
+
+#[derive(Clone)]
+pub struct Section {
+    pub va: u64,
+    pub size: u64,
+    pub offset: u64,
+    pub flags: u32,
+}
+
+impl Section {
+    fn has(&self, flag: u32) -> bool {
+        self.flags & flag != 0
+    }
+
+    fn end(&self) -> u64 {
+        self.va + self.size
+    }
+
+    fn last_page(&self) -> u64 {
+        (self.end() - 1) / PAGE
+    }
+
+    /// The virtual pages that hold a byte of the section.
+    fn pages(&self, fault: Fault) -> Range<u32> {
+        let first = self.va / PAGE;
+        let past = match fault {
+            Fault::PagesBySize => first + self.size.div_ceil(PAGE),
+            _ => self.last_page() + 1,
+        };
+        first as u32..past as u32
+    }
+
+    /// The 4,096 bytes of one of its pages: byte j of the section at va + j, zero elsewhere.
+    fn page_bytes(&self, flash: &[u8], page: u32, fault: Fault) -> Vec<u8> {
+        let mut bytes = vec![0; PAGE as usize];
+        if self.has(NOCOPY) {
+            return bytes;
+        }
+        let va = match fault {
+            Fault::OffsetOfFlash => self.va / PAGE * PAGE + self.offset % PAGE,
+            _ => self.va,
+        };
+        let base = u64::from(page) * PAGE;
+        let low = va.max(base);
+        let high = (va + self.size).min(base + PAGE);
+        if low < high {
+            let from = (self.offset + low - va) as usize;
+            let count = (high - low) as usize;
+            let at = (low - base) as usize;
+            bytes[at..at + count].copy_from_slice(&flash[from..from + count]);
+        }
+        bytes
+    }
+}
+
+#[derive(Clone)]
+pub struct Process {
+    pub entry: u32,
+    pub sections: Range<usize>,
+}
+
+#[derive(Clone)]
+pub struct Region {
+    pub start: u64,
+    pub pages: u64,
+}
+
+/// A boot block, read.
+#[derive(Clone)]
+pub struct Board {
+    pub processes: Vec<Process>,
+    pub sections: Vec<Section>,
+    pub regions: Vec<Region>,
+}
+
+impl Board {
+    pub fn io_pages(&self) -> u64 {
+        self.regions.iter().map(|region| region.pages).sum()
+    }
+}
+
+/// A refusal: its number and place.
+pub struct Refusal(pub u32, pub u32);
+
+fn refuse_if(cause: bool, number: u32, place: usize) -> Result<(), Refusal> {
+    if cause {
+        Err(Refusal(number, place as u32))
+    } else {
+        Ok(())
+    }
+}
+
+/// The words of a record or of the header.
+fn words<const N: usize>(block: &[u8], at: usize) -> [u32; N] {
+    std::array::from_fn(|i| {
+        let from = at + 4 * i;
+        u32::from_le_bytes([
+            block[from],
+            block[from + 1],
+            block[from + 2],
+            block[from + 3],
+        ])
+    })
+}
+
+/// Refusals 1 to 11, in 01's order.
+pub fn read_board(block: &[u8], flash_len: u64, ram: Ram) -> Result<Board, Refusal> {
+    let bad_ram =
+        ram.len % PAGE != 0 || ram.pages() > 4096 || ram.from() % PAGE != 0 || ram.to() > END;
+    refuse_if(bad_ram, 1, 0)?;
+    refuse_if(block.len() < 32, 2, 0)?;
+    let [format, length, p, p_at, s, s_at, r, r_at] = words::<8>(block, 0);
+    refuse_if(format != 1, 3, 0)?;
+    refuse_if(
+        !(1..=16).contains(&p) || !(1..=64).contains(&s) || r > 32,
+        4,
+        0,
+    )?;
+    let tight = [
+        32,
+        32 + 16 * p,
+        32 + 16 * p + 16 * s,
+        32 + 16 * p + 16 * s + 8 * r,
+    ];
+    refuse_if(
+        [p_at, s_at, r_at, length] != tight || block.len() as u64 != u64::from(tight[3]),
+        5,
+        0,
+    )?;
+
+    let processes = read_processes(block, p as usize, s as usize)?;
+    let sections: Vec<Section> = (0..s as usize)
+        .map(|i| {
+            let [va, size, offset, flags] = words::<4>(block, tight[1] as usize + 16 * i);
+            Section {
+                va: va.into(),
+                size: size.into(),
+                offset: offset.into(),
+                flags,
+            }
+        })
+        .collect();
+    check_sections(&processes, &sections, flash_len)?;
+    for (i, process) in processes.iter().enumerate() {
+        let entry = u64::from(process.entry);
+        let inside = sections[process.sections.clone()]
+            .iter()
+            .any(|section| section.has(EXECUTABLE) && section.va <= entry && entry < section.end());
+        refuse_if(!inside, 10, i)?;
+    }
+    let regions = read_regions(block, tight[2] as usize, r as usize, ram)?;
+    Ok(Board {
+        processes,
+        sections,
+        regions,
+    })
+}
+
+/// Refusal 6. The last sum is tried as part of the last record.
+fn read_processes(block: &[u8], p: usize, s: usize) -> Result<Vec<Process>, Refusal> {
+    let mut processes = Vec::new();
+    let mut sum = 0u64;
+    for i in 0..p {
+        let [entry, first, count, kind] = words::<4>(block, 32 + 16 * i);
+        let after = sum + u64::from(count);
+        let wrong = kind != 0
+            || count == 0
+            || u64::from(first) != sum
+            || after > s as u64
+            || (i + 1 == p && after != s as u64);
+        refuse_if(wrong, 6, i)?;
+        processes.push(Process {
+            entry,
+            sections: sum as usize..after as usize,
+        });
+        sum = after;
+    }
+    Ok(processes)
+}
+
+/// Refusals 7, 8 and 9, all three for one section before the next.
+fn check_sections(
+    processes: &[Process],
+    sections: &[Section],
+    flash_len: u64,
+) -> Result<(), Refusal> {
+    for (owner, process) in processes.iter().enumerate() {
+        let range = if owner == 0 { KERNEL } else { USER };
+        let mut previous: Option<&Section> = None;
+        for i in process.sections.clone() {
+            let section = &sections[i];
+            let malformed = section.size == 0
+                || section.flags > 7
+                || (section.has(WRITABLE) && section.has(EXECUTABLE))
+                || (section.has(NOCOPY) && section.offset != 0);
+            refuse_if(malformed, 7, i)?;
+            let misplaced = section.va < range.start
+                || section.end() > range.end
+                || previous.is_some_and(|before| section.va / PAGE <= before.last_page());
+            refuse_if(misplaced, 8, i)?;
+            refuse_if(
+                !section.has(NOCOPY) && section.offset + section.size > flash_len,
+                9,
+                i,
+            )?;
+            previous = Some(section);
+        }
+    }
+    Ok(())
+}
+
+/// Refusal 11.
+fn read_regions(block: &[u8], at: usize, r: usize, ram: Ram) -> Result<Vec<Region>, Refusal> {
+    let mut regions = Vec::new();
+    let mut before = 0;
+    let mut total = 0;
+    for i in 0..r {
+        let [start, pages] = words::<2>(block, at + 8 * i);
+        let (start, pages) = (u64::from(start), u64::from(pages));
+        let end = start + PAGE * pages;
+        total += pages;
+        let meets_ram = ram.len > 0 && start < ram.to() && ram.from() < end;
+        let wrong = start % PAGE != 0
+            || pages == 0
+            || end > END
+            || start < before
+            || meets_ram
+            || total > 4096;
+        refuse_if(wrong, 11, i)?;
+        before = end;
+        regions.push(Region { start, pages });
+    }
+    Ok(regions)
+}
+
+/// What a taken page is for. Processes are numbered from 1.
+#[derive(Clone, Copy, PartialEq, Eq, PartialOrd, Ord, Debug)]
+pub enum Use {
+    Section {
+        process: u32,
+        section: usize,
+        page: u32,
+    },
+    Tracker {
+        part: u32,
+    },
+    ProcessList,
+    BlockCopy,
+    Root {
+        process: u32,
+    },
+    Leaf {
+        process: u32,
+        nth: usize,
+    },
+}
+
+/// What a process sees on one virtual page.
+#[derive(Clone, Copy, Debug)]
+pub enum Sight {
+    Reserved,
+    Page { rights: u32, page: Use },
+}
+
+/// What a process sees: virtual pages that are not in the map are absent.
+pub type View = BTreeMap<u32, Sight>;
+
+/// The section pages of a process, and the reserved stack of a user process.
+fn own_view(board: &Board, process: u32, fault: Fault) -> View {
+    let mut view = View::new();
+    for section in board.processes[process as usize - 1].sections.clone() {
+        let record = &board.sections[section];
+        let rights = READ
+            | if record.has(WRITABLE) { WRITE } else { 0 }
+            | if record.has(EXECUTABLE) { EXECUTE } else { 0 }
+            | if process > 1 { BY_USER } else { 0 };
+        for page in record.pages(fault) {
+            view.insert(
+                page,
+                Sight::Page {
+                    rights,
+                    page: Use::Section {
+                        process,
+                        section,
+                        page,
+                    },
+                },
+            );
+        }
+    }
+    if process > 1 {
+        view.extend(STACK_PAGES.map(|page| (page, Sight::Reserved)));
+    }
+    view
+}
+
+/// What every process sees in the top 4 MiB: the kernel's sections, the block copy, the tracker and the process list.
+fn kernel_view(kernel: &View, tracker_pages: u32) -> View {
+    let mut view = kernel.clone();
+    view.insert(
+        BLOCK_COPY_PAGE,
+        Sight::Page {
+            rights: READ,
+            page: Use::BlockCopy,
+        },
+    );
+    for part in 0..tracker_pages {
+        let page = Use::Tracker { part };
+        view.insert(
+            TRACKER_PAGE + part,
+            Sight::Page {
+                rights: READ | WRITE,
+                page,
+            },
+        );
+    }
+    view.insert(
+        LIST_PAGE,
+        Sight::Page {
+            rights: READ,
+            page: Use::ProcessList,
+        },
+    );
+    view
+}
+
+/// A leaf table of a process: its 4 MiB block (its index in the root) and the virtual pages it maps.
+struct Leaf {
+    block: u32,
+    pages: Vec<u32>,
+}
+
+/// One leaf table for each 4 MiB block in which the process sees something of its own, rising.
+fn leaves(view: &View, fault: Fault) -> Vec<Leaf> {
+    let mut tables: Vec<Leaf> = Vec::new();
+    let mut last = None;
+    for (&page, sight) in view {
+        let block = page >> 10;
+        let section = match sight {
+            Sight::Page {
+                page: Use::Section { section, .. },
+                ..
+            } => Some(*section),
+            _ => None,
+        };
+        let parted = match fault {
+            Fault::LeafPerSection => section.is_some() && section != last,
+            Fault::LeafForStack => section.is_none() && last.is_some(),
+            _ => false,
+        };
+        match tables.last_mut() {
+            Some(table) if table.block == block && !parted => table.pages.push(page),
+            _ => tables.push(Leaf {
+                block,
+                pages: vec![page],
+            }),
+        }
+        last = section;
+    }
+    tables
+}
+
+/// What each process sees, and which pages are taken for it, in 01's order.
+pub struct Plan {
+    pub board: Board,
+    ram: Ram,
+    fault: Fault,
+    /// By process, from process 1; each without the kernel's 4 MiB.
+    own: Vec<View>,
+    kernel: View,
+    leaves: Vec<Vec<Leaf>>,
+    order: Vec<Use>,
+    index: BTreeMap<Use, usize>,
+    pub tracker_pages: u64,
+}
+
+impl Plan {
+    pub fn new(board: Board, ram: Ram, fault: Fault) -> Plan {
+        let last = board.processes.len() as u32;
+        let tracker_pages = (ram.pages() + board.io_pages()).div_ceil(PAGE);
+        let mut own: Vec<View> = (1..=last)
+            .map(|process| own_view(&board, process, fault))
+            .collect();
+        let kernel = kernel_view(&own[0], tracker_pages as u32);
+
+        // Section pages: a process's sections rise, so their order is that of the virtual pages.
+        let mut order: Vec<Use> = Vec::new();
+        for view in own[1..].iter().chain([&own[0]]) {
+            order.extend(view.values().filter_map(|sight| match sight {
+                Sight::Page { page, .. } => Some(*page),
+                Sight::Reserved => None,
+            }));
+        }
+        order.extend((0..tracker_pages as u32).map(|part| Use::Tracker { part }));
+        order.extend([Use::ProcessList, Use::BlockCopy]);
+        own[0].clear();
+        let mut all_leaves = vec![vec![Leaf {
+            block: KERNEL_ENTRY,
+            pages: kernel.keys().copied().collect(),
+        }]];
+        all_leaves.extend(own[1..].iter().map(|view| leaves(view, fault)));
+        for (process, tables) in (1..).zip(&all_leaves) {
+            order.push(Use::Root { process });
+            order.extend((0..tables.len()).map(|nth| Use::Leaf { process, nth }));
+        }
+        let index = order
+            .iter()
+            .enumerate()
+            .map(|(i, page)| (*page, i))
+            .collect();
+        Plan {
+            board,
+            ram,
+            fault,
+            own,
+            kernel,
+            leaves: all_leaves,
+            order,
+            index,
+            tracker_pages,
+        }
+    }
+
+    /// The four lost pages and all taken ones.
+    pub fn needed(&self) -> u64 {
+        4 + self.order.len() as u64
+    }
+
+    pub fn processes(&self) -> std::ops::RangeInclusive<u32> {
+        1..=self.board.processes.len() as u32
+    }
+
+    /// The part of the map that tells what the process sees in this 4 MiB block.
+    fn view_of(&self, process: u32, page: u32) -> &View {
+        if page >> 10 == KERNEL_ENTRY {
+            &self.kernel
+        } else {
+            &self.own[process as usize - 1]
+        }
+    }
+
+    pub fn sight(&self, process: u32, page: u32) -> Option<Sight> {
+        self.view_of(process, page).get(&page).copied()
+    }
+
+    /// Every virtual page at which the process sees anything, rising.
+    pub fn seen_pages(&self, process: u32) -> impl Iterator<Item = u32> + '_ {
+        self.own[process as usize - 1]
+            .keys()
+            .chain(self.kernel.keys())
+            .copied()
+    }
+
+    /// The RAM page of a use: after the top four, downwards.
+    fn ram_page(&self, page: Use) -> u64 {
+        self.ram.pages() - 5 - self.index[&page] as u64
+    }
+
+    pub fn physical(&self, page: Use) -> u32 {
+        (self.ram.from() / PAGE + self.ram_page(page)) as u32
+    }
+
+    /// The physical page number of a process's root table, found by the order of pages.
+    pub fn root(&self, process: u32) -> u32 {
+        self.physical(Use::Root { process })
+    }
+
+    /// What stands in a RAM page after a boot, in words for a report.
+    pub fn describe(&self, ram_page: u64) -> String {
+        let pages = self.ram.pages();
+        if ram_page + 4 >= pages {
+            return "lost page".to_string();
+        }
+        match self.order.get((pages - 5 - ram_page) as usize) {
+            Some(page) => format!("{page:?}"),
+            None => "free page".to_string(),
+        }
+    }
+
+    /// "RAM pages rising, then regions in record order; 0 is free, else the owner's number."
+    fn tracker(&self) -> Vec<u8> {
+        let mut bytes = vec![0; (self.tracker_pages * PAGE) as usize];
+        for page in self.ram.pages() - 4..self.ram.pages() {
+            bytes[page as usize] = 1;
+        }
+        for page in &self.order {
+            bytes[self.ram_page(*page) as usize] = match page {
+                Use::Section { process, .. } => *process as u8,
+                _ => 1,
+            };
+        }
+        bytes
+    }
+
+    /// Three words for each process: satp, entry point, stack pointer.
+    fn process_list(&self) -> Vec<u32> {
+        (1..)
+            .zip(&self.board.processes)
+            .flat_map(|(number, process)| {
+                let satp = (1 << 31) + (number << 22) + self.root(number);
+                [
+                    satp,
+                    process.entry,
+                    if number == 1 { 0 } else { 0x8000_0000 },
+                ]
+            })
+            .collect()
+    }
+
+    fn root_table(&self, process: u32) -> Vec<u32> {
+        let mut entries = vec![0; 1024];
+        for (nth, leaf) in self.leaves[process as usize - 1].iter().enumerate() {
+            entries[leaf.block as usize] = self.physical(Use::Leaf { process, nth }) * 1024 + 1;
+        }
+        entries[KERNEL_ENTRY as usize] = self.physical(Use::Leaf { process: 1, nth: 0 }) * 1024 + 1;
+        entries
+    }
+
+    fn leaf_table(&self, process: u32, nth: usize) -> Vec<u32> {
+        let mut entries = vec![0; 1024];
+        for &page in &self.leaves[process as usize - 1][nth].pages {
+            entries[(page % 1024) as usize] = match self.view_of(process, page)[&page] {
+                Sight::Reserved => 22,
+                Sight::Page { rights, page } => self.physical(page) * 1024 + rights * 2 + 1,
+            };
+        }
+        entries
+    }
+
+    /// The 4,096 bytes of every taken page, in the order of taking.
+    fn contents(&self, block: &[u8], flash: &[u8]) -> Vec<Vec<u8>> {
+        let tracker = self.tracker();
+        self.order
+            .iter()
+            .map(|page| match *page {
+                Use::Section { section, page, .. } => {
+                    self.board.sections[section].page_bytes(flash, page, self.fault)
+                }
+                Use::Tracker { part } => {
+                    let from = part as usize * PAGE as usize;
+                    tracker[from..from + PAGE as usize].to_vec()
+                }
+                Use::BlockCopy => padded(block.to_vec()),
+                Use::ProcessList => word_bytes(&self.process_list()),
+                Use::Root { process } => word_bytes(&self.root_table(process)),
+                Use::Leaf { process, nth } => word_bytes(&self.leaf_table(process, nth)),
+            })
+            .collect()
+    }
+
+    /// Where the bytes that are written begin in a page: 0, but for fault 1.
+    fn written_from(&self, page: Use) -> usize {
+        match page {
+            Use::Section { section, page, .. } if self.fault == Fault::PartBeforeKept => {
+                let va = self.board.sections[section].va;
+                if va / PAGE == u64::from(page) {
+                    (va % PAGE) as usize
+                } else {
+                    0
+                }
+            }
+            _ => 0,
+        }
+    }
+}
+
+fn padded(mut bytes: Vec<u8>) -> Vec<u8> {
+    bytes.resize(PAGE as usize, 0);
+    bytes
+}
+
+fn word_bytes(list: &[u32]) -> Vec<u8> {
+    padded(list.iter().flat_map(|word| word.to_le_bytes()).collect())
+}
+
+/// What a boot leaves: the plan, and the bytes of its taken pages.
+pub struct Boot {
+    pub plan: Plan,
+    contents: Vec<Vec<u8>>,
+}
+
+impl Boot {
+    pub fn bytes(&self, page: Use) -> &[u8] {
+        &self.contents[self.plan.index[&page]]
+    }
+}
+
+/// The whole of what 01 says about one call: number, place, pages taken, pages free, tracker pages;
+/// RAM afterwards; and what the processes see if it boots.
+pub struct Outcome {
+    pub answer: [u32; 5],
+    pub image: Vec<u8>,
+    pub boot: Option<Boot>,
+}
+
+pub fn load(block: &[u8], flash: &[u8], ram: &[u8], start: u32, fault: Fault) -> Outcome {
+    let lent = Ram {
+        start,
+        len: ram.len() as u64,
+    };
+    let mut image = ram.to_vec();
+    let board = match read_board(block, flash.len() as u64, lent) {
+        Ok(board) => board,
+        Err(Refusal(number, place)) => {
+            return Outcome {
+                answer: [number, place, 0, 0, 0],
+                image,
+                boot: None,
+            };
+        }
+    };
+    let plan = Plan::new(board, lent, fault);
+    if plan.needed() > lent.pages() {
+        if fault == Fault::CopyThenRefuse {
+            copy_while_it_lasts(&plan, flash, &mut image);
+        }
+        return Outcome {
+            answer: [12, 0, 0, 0, 0],
+            image,
+            boot: None,
+        };
+    }
+    let contents = plan.contents(block, flash);
+    for (page, bytes) in plan.order.iter().zip(&contents) {
+        let at = (plan.ram_page(*page) * PAGE) as usize;
+        let from = plan.written_from(*page);
+        image[at + from..at + PAGE as usize].copy_from_slice(&bytes[from..]);
+    }
+    let free = lent.pages() - plan.needed();
+    let answer = [
+        0,
+        0,
+        plan.needed() as u32,
+        free as u32,
+        plan.tracker_pages as u32,
+    ];
+    Outcome {
+        answer,
+        image,
+        boot: Some(Boot { plan, contents }),
+    }
+}
+
+/// Fault 4: section pages are written until RAM runs out.
+fn copy_while_it_lasts(plan: &Plan, flash: &[u8], image: &mut [u8]) {
+    for (i, page) in plan.order.iter().enumerate() {
+        let Some(ram_page) = plan.ram.pages().checked_sub(5 + i as u64) else {
+            return;
+        };
+        if let Use::Section { section, page, .. } = *page {
+            let at = (ram_page * PAGE) as usize;
+            let bytes = plan.board.sections[section].page_bytes(flash, page, Fault::None);
+            image[at..at + PAGE as usize].copy_from_slice(&bytes);
+        }
+    }
+}

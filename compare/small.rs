@@ -1,0 +1,176 @@
+//! 01's small board: its cases P1 to P12 are the first cases of a run, and its figures are what the
+//! second program itself is held against before it is used.
+
+use crate::draft::{Draft, ProcessRecord, RegionRecord, SectionRecord};
+use crate::rules::{self, Fault, PAGE};
+
+pub struct Marked {
+    pub name: &'static str,
+    pub draft: Draft,
+    /// Number, place and free pages that 01 gives.
+    expected: [u32; 3],
+}
+
+fn board() -> Draft {
+    let section = |va, size, offset, flags| SectionRecord {
+        va,
+        size,
+        offset,
+        flags,
+    };
+    Draft {
+        processes: vec![
+            ProcessRecord {
+                entry: 0xffc0_0010,
+                first: 0,
+                count: 1,
+                kind: 0,
+            },
+            ProcessRecord {
+                entry: 0x0001_0020,
+                first: 1,
+                count: 2,
+                kind: 0,
+            },
+        ],
+        sections: vec![
+            section(0xffc0_0000, 256, 0, 4),
+            section(0x0001_0020, 64, 256, 4),
+            section(0x0002_0000, 4096, 0, 3),
+        ],
+        regions: vec![RegionRecord {
+            start: 0xf000_0000,
+            pages: 2,
+        }],
+        flash_len: 320,
+        ram_len: 16 * PAGE,
+        start: 0x4000_0000,
+        ..Draft::default()
+    }
+}
+
+/// P1 to P12, of which the last has two halves.
+pub fn marked(number: u64) -> Option<Marked> {
+    let mut draft = board();
+    let (name, expected) = match number {
+        0 => ("P1", [0, 0, 1]),
+        1 => {
+            draft.ram_len = 15 * PAGE;
+            ("P2", [0, 0, 0])
+        }
+        2 => {
+            draft.ram_len = 14 * PAGE;
+            ("P3", [12, 0, 0])
+        }
+        3 => {
+            draft.length = Some(0);
+            ("P4", [2, 0, 0])
+        }
+        4 => {
+            draft.processes[1].entry = 0x0001_005f;
+            ("P5", [0, 0, 1])
+        }
+        5 => {
+            draft.processes[1].entry = 0x0001_0060;
+            ("P6", [10, 1, 0])
+        }
+        6 => {
+            draft.flash_len = 319;
+            ("P7", [9, 1, 0])
+        }
+        7 => {
+            draft.sections[2].va = 0x0001_0060;
+            ("P8", [8, 2, 0])
+        }
+        8 => {
+            draft.sections[2].va = 0x0001_1000;
+            ("P9", [0, 0, 1])
+        }
+        9 => {
+            draft.sections[2].va = 0x7fff_b000;
+            ("P10", [0, 0, 1])
+        }
+        10 => {
+            draft.sections[2].va = 0x7fff_b001;
+            ("P11", [8, 2, 0])
+        }
+        11 => {
+            draft.regions[0].start = 0x4000_f000;
+            ("P12 inside", [11, 0, 0])
+        }
+        12 => {
+            draft.regions[0].start = 0x4001_0000;
+            ("P12 after", [0, 0, 1])
+        }
+        _ => return None,
+    };
+    Some(Marked {
+        name,
+        draft,
+        expected,
+    })
+}
+
+fn word(ram: &[u8], page: usize, index: usize) -> u32 {
+    let at = page * PAGE as usize + index * 4;
+    u32::from_le_bytes([ram[at], ram[at + 1], ram[at + 2], ram[at + 3]])
+}
+
+/// The second program against 01's own figures.
+pub fn check_rules() -> Result<(), String> {
+    for marked in (0..).map_while(marked) {
+        let draft = &marked.draft;
+        let (flash, ram) = (
+            vec![0x5a; draft.flash_len as usize],
+            vec![0xee; draft.ram_len as usize],
+        );
+        let answer = rules::load(&draft.block(), &flash, &ram, draft.start, Fault::None).answer;
+        let got = [answer[0], answer[1], answer[3]];
+        if got != marked.expected {
+            return Err(format!(
+                "{} of 01: the rules here give {got:?}, 01 gives {:?}",
+                marked.name, marked.expected
+            ));
+        }
+    }
+    let draft = board();
+    let ram = rules::load(
+        &draft.block(),
+        &[0x5a; 320],
+        &[0xee; 16 * 4096],
+        draft.start,
+        Fault::None,
+    )
+    .image;
+    // Page, word in it, value: entries of A and B, root entries, satp words.
+    let figures = [
+        (2, 16, 0x1000_2c1b),
+        (2, 32, 0x1000_2817),
+        (3, 0, 0x1000_0801),
+        (3, 511, 0x1000_0401),
+        (3, 1023, 0x1000_1001),
+        (5, 1023, 0x1000_1001),
+        (1, 1020, 22),
+        (7, 0, 0x8044_0005),
+        (7, 3, 0x8084_0003),
+        (6, 0, 1),
+        (0, 0, 0xeeee_eeee),
+        (12, 0, 0xeeee_eeee),
+    ];
+    for (page, index, value) in figures {
+        let got = word(&ram, page, index);
+        if got != value {
+            return Err(format!("small board, page {page}, word {index}: the rules here give {got:#x}, 01 gives {value:#x}"));
+        }
+    }
+    let owners = |number| {
+        ram[8 * 4096..8 * 4096 + 16]
+            .iter()
+            .filter(|&&byte| byte == number)
+            .count()
+    };
+    if (owners(0), owners(1), owners(2)) != (1, 13, 2) {
+        return Err("small board: the tracker here does not count 1 free page, 13 of process 1, 2 of process 2".to_string());
+    }
+    Ok(())
+}

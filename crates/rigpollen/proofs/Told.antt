@@ -1,0 +1,21 @@
+-- Words put one after the other.
+use mathlib.Core.Path.{_≡_, refl, _∙_}
+use mathlib.Core.List.{List, [], _∷_}
+use Prim.Native.Nat.{ℕ}
+use lib.ListN.{set}
+use lib.Seq.{sets}
+use Rattle.types.specs.declared.Answer.{Answer}
+use Rattle.types.specs.declared.PhysPage.{PhysPage}
+use Rattle.types.specs.declared.Rights.{Rights}
+use Rattle.types.specs.declared.Entry.{Entry}
+use Rattle.types.specs.declared.Entry.the-variants.{Page}
+use Rattle.rigpollen.specs.Words.{answerWords, rightsWord, entryNumber, entryWords}
+
+pub answer-told : (f g : Answer) (a₀ a₁ a₂ a₃ a₄ a₅ : List ℕ) → f ≡ g
+    → a₁ ≡ set a₀ 0 (f .number) → a₂ ≡ set a₁ 1 (f .place) → a₃ ≡ set a₂ 2 (f .taken) → a₄ ≡ set a₃ 3 (f .free) → a₅ ≡ set a₄ 4 (f .tracker)
+    → a₅ ≡ sets a₀ 0 (answerWords g)
+answer-told f g a₀ a₁ a₂ a₃ a₄ a₅ e e₁ e₂ e₃ e₄ e₅ = rw (← e) (e₅ ∙ rw (e₄, e₃, e₂, e₁))
+
+pub page-told : (entry : Entry) (t : Rights) (P : PhysPage) (w : ℕ) (a₀ a₁ a₂ : List ℕ) → entry ≡ Page t P → w ≡ rightsWord t
+    → a₁ ≡ set a₀ 0 w → a₂ ≡ set a₁ 1 (P .0) → (2 ≡ entryNumber entry) × (a₂ ≡ sets a₀ 0 (entryWords entry))
+page-told entry t P w a₀ a₁ a₂ e r e₁ e₂ = rw e (refl, e₂ ∙ rw (e₁, r))

@@ -1,0 +1,103 @@
+// The entries for C. A slice passes as a pointer and then a length.
+ghost use mathlib.Core.Path.{_≡_};
+ghost use Prim.Native.Nat.{_≤_};
+ghost use lib.ListN.{length, set};
+ghost use lib.Seq.{sets};
+ghost use Rattle.notation.specs.Choice.{choose};
+ghost use Rattle.rules.specs.Load.{answer as answerOf, ramAfter};
+ghost use Rattle.rules.specs.Reader.{walk};
+ghost use Rattle.rigpollen.specs.Words.{answerWords, rightsWord, entryNumber, entryWords};
+use types::Entry;
+use types::PhysPage;
+use types::Rights;
+
+// A word at an index, where there is one.
+fn put(words: &mut [u32], at: usize, word: u32)
+    ensures { λ _. ⌜ now (words .exit) ≡ set (now (words .entry)) at word ⌝ }
+{
+    if at < words.len() {
+        words[at] = word;
+    }
+}
+
+// Loads the block's programs from flash into RAM that starts at physical address `ram_start`. Returns 0, or the number of the
+// refusal, which leaves RAM as it came.
+#[no_mangle]
+pub extern "C" fn rigpollen_load(block: &[u8], flash: &[u8], ram: &mut [u8], ram_start: u32) -> u32
+    ensures { λ r. ⌜ (r ≡ answerOf (now (block .entry)) (length (now (flash .entry))) «ram_start» (length (now (ram .entry))) .number)
+        × (now (ram .exit) ≡ ramAfter (now (block .entry)) (now (flash .entry)) «ram_start» (now (ram .entry))) ⌝ }
+{
+    let answer = loader::load(block, flash, ram, ram_start);
+    answer.number
+}
+
+// The same load. Number, place, pages taken, pages free and tracker pages are put into `answer`, as many as fit; what lies beyond
+// stays.
+#[no_mangle]
+pub extern "C" fn rigpollen_answer(
+    block: &[u8],
+    flash: &[u8],
+    ram: &mut [u8],
+    ram_start: u32,
+    answer: &mut [u32],
+) -> u32
+    ensures { λ r. ⌜ (r ≡ answerOf (now (block .entry)) (length (now (flash .entry))) «ram_start» (length (now (ram .entry))) .number)
+        × (now (ram .exit) ≡ ramAfter (now (block .entry)) (now (flash .entry)) «ram_start» (now (ram .entry)))
+        × (now (answer .exit) ≡ sets (now (answer .entry)) 0 (answerWords (answerOf (now (block .entry)) (length (now (flash .entry))) «ram_start» (length (now (ram .entry)))))) ⌝ }
+{
+    let full = loader::load(block, flash, ram, ram_start);
+    put(answer, 0, full.number);
+    put(answer, 1, full.place);
+    put(answer, 2, full.taken);
+    put(answer, 3, full.free);
+    put(answer, 4, full.tracker);
+    full.number
+}
+
+// The weight of a right that is given.
+fn weight(given: bool, weight: u32) -> u32
+    ensures { λ r. ⌜ (r ≡ choose given weight 0) × (r ≤ weight) ⌝ }
+{
+    if given { weight } else { 0 }
+}
+
+// A page's rights as one word.
+fn rights_word(t: Rights) -> u32
+    ensures { λ r. ⌜ r ≡ rightsWord t ⌝ }
+{
+    weight(t.read, 1) + weight(t.write, 2) + weight(t.execute, 4) + weight(t.user, 8)
+}
+
+// What the walk answered.
+fn tell(entry: Entry, page: &mut [u32]) -> u32
+    ensures { λ r. ⌜ (r ≡ entryNumber entry) × (now (page .exit) ≡ sets (now (page .entry)) 0 (entryWords entry)) ⌝ }
+{
+    match entry {
+        Entry::Absent => 0,
+        Entry::Reserved => 1,
+        Entry::Pointer(_) => 0,
+        Entry::Page(t, p) => {
+            put(page, 0, rights_word(t));
+            put(page, 1, p.0);
+            2
+        }
+    }
+}
+
+// Walks the tables from the root at physical page number `root` at an address: 0 absent, 1 reserved, 2 a page. Of a page its
+// rights (read 1, write 2, execute 4, user 8) and its physical page number are put into `page`, as many as fit; otherwise `page`
+// stays.
+#[no_mangle]
+pub extern "C" fn rigpollen_walk(
+    ram: &[u8],
+    ram_start: u32,
+    root: u32,
+    address: u32,
+    page: &mut [u32],
+) -> u32
+    ensures { λ r. ⌜ (r ≡ entryNumber (walk (now (ram .entry)) «ram_start» root address))
+        × (now (page .exit) ≡ sets (now (page .entry)) 0 (entryWords (walk (now (ram .entry)) «ram_start» root address))) ⌝ }
+{
+    let entry = reader::walk(ram, ram_start, PhysPage(root), address);
+    tell(entry, page)
+}

@@ -1,0 +1,210 @@
+/*
+ * Rigpollen: the boot loader's entries for C and C++.
+ *
+ * The loader reads a boot block, checks it, copies the sections of every
+ * process from flash into RAM, and builds the Sv32 page tables, the page
+ * tracker and the process list there. It either does all of this or refuses,
+ * gives a number, and leaves RAM as it came. The reader walks page tables by
+ * the Sv32 rules.
+ *
+ * Link with librigpollen.a. The entries keep no state between calls, take
+ * nothing from a heap, and need nothing of a C library but what compilers
+ * call by themselves (memcpy, memset and the like). They answer for every
+ * input: there is none that they must not be given, if the areas are as said
+ * here.
+ *
+ * Areas. Each area is a pointer and a length. The length of `block`, `flash`
+ * and `ram` counts bytes, that of `answer` and `page` counts 32-bit words.
+ *   - An area with `const` is only read. It may share bytes with another area
+ *     with `const`.
+ *   - An area without `const` must not share a byte with any other area of
+ *     the same call.
+ *   - A length of 0 is allowed. The pointer must still not be null, and must
+ *     be aligned for what it points to; any valid pointer will do.
+ *   - Words in `block` and `ram` are little-endian bytes and need no
+ *     alignment.
+ *
+ * Addresses. `ram` is where the caller reaches RAM, `ram_start` is RAM's
+ * physical address as it goes into the tables. On the chip, before paging is
+ * on, they are the same number.
+ */
+#ifndef RIGPOLLEN_H
+#define RIGPOLLEN_H
+
+#include <stddef.h>
+#include <stdint.h>
+
+#ifdef __cplusplus
+extern "C" {
+#endif
+
+#define RIGPOLLEN_PAGE_BYTES 4096u
+
+/* ------------------------------------------------------------ the loader */
+
+/*
+ * Refusals, as rigpollen_load and rigpollen_answer return them. "Place" is
+ * the second word of the answer; it counts records from 0. The first in the
+ * order of the numbers wins, with 7, 8 and 9 tried together for one section
+ * before the next.
+ *
+ *  No.  Given exactly when                                           Place
+ *   0   (no refusal: the board is loaded)                            0
+ *   1   RAM is not whole pages or over 4,096 pages, its start is     0
+ *       not a multiple of 4,096, or its end passes 2^32
+ *   2   the block is under 32 bytes                                  0
+ *   3   the format is not 1                                          0
+ *   4   the process count is not 1 to 16, the section count is       0
+ *       not 1 to 64, or the region count is over 32
+ *   5   an offset is not the tight one, or the length field or the   0
+ *       block's true length is not the tight length
+ *   6   a process's kind is not 0, its section count is 0, its       process
+ *       first section is not the sum of the counts before it, its    record
+ *       sum passes the section count, or the last sum is not the
+ *       section count (then the last record)
+ *   7   a section's size is 0, a flag above 4 is set, writable and   section
+ *       executable are both set, or NOCOPY has a flash offset        record
+ *       other than 0
+ *   8   a section is not wholly in its owner's range, or its first   section
+ *       page is not above the last page of the same process's        record
+ *       previous section
+ *   9   a section without NOCOPY runs past the end of flash          section
+ *                                                                    record
+ *  10   an entry point is not in an executable section of its        process
+ *       process                                                      record
+ *  11   a region's start is not a multiple of 4,096, its pages are   region
+ *       0, it ends past 2^32, starts below the end of the region     record
+ *       before, shares an address with RAM, or brings the I/O total
+ *       over 4,096
+ *  12   the pages needed exceed the pages of RAM                     0
+ */
+#define RIGPOLLEN_LOADED              0u
+#define RIGPOLLEN_REFUSED_RAM         1u
+#define RIGPOLLEN_REFUSED_SHORT_BLOCK 2u
+#define RIGPOLLEN_REFUSED_FORMAT      3u
+#define RIGPOLLEN_REFUSED_COUNTS      4u
+#define RIGPOLLEN_REFUSED_LAYOUT      5u
+#define RIGPOLLEN_REFUSED_PROCESS     6u
+#define RIGPOLLEN_REFUSED_SECTION     7u
+#define RIGPOLLEN_REFUSED_RANGE       8u
+#define RIGPOLLEN_REFUSED_FLASH       9u
+#define RIGPOLLEN_REFUSED_ENTRY      10u
+#define RIGPOLLEN_REFUSED_REGION     11u
+#define RIGPOLLEN_REFUSED_PAGES      12u
+
+/* Where the words of an answer lie. */
+#define RIGPOLLEN_ANSWER_NUMBER  0 /* 0, or the refusal's number             */
+#define RIGPOLLEN_ANSWER_PLACE   1 /* the refused record, counted from 0     */
+#define RIGPOLLEN_ANSWER_TAKEN   2 /* pages of RAM taken, with the four lost */
+#define RIGPOLLEN_ANSWER_FREE    3 /* pages of RAM not taken, from page 0 up */
+#define RIGPOLLEN_ANSWER_TRACKER 4 /* pages that the page tracker takes      */
+#define RIGPOLLEN_ANSWER_WORDS   5
+
+/*
+ * Load a board.
+ *
+ *   block      the boot block, exactly its length: bytes after the last
+ *              record are refused (5)
+ *   flash      the flash image; section records hold offsets into it
+ *   ram        the whole of RAM, at most 4,096 pages. The top four pages
+ *              are lost to all (stack and guard of the ROM itself) and keep
+ *              their bytes; the rest is taken from the top down.
+ *   ram_start  RAM's physical address, a multiple of 4,096
+ *
+ * Returns 0, or the number of the refusal.
+ *
+ * What is left in RAM: after 0, every taken page holds what the rules put
+ * there and zero elsewhere, and pages not taken keep their bytes. After a
+ * refusal, RAM is byte for byte as it came, so another block can be tried
+ * on it.
+ */
+uint32_t rigpollen_load(const uint8_t *block, size_t block_length,
+                        const uint8_t *flash, size_t flash_length,
+                        uint8_t *ram, size_t ram_length,
+                        uint32_t ram_start);
+
+/*
+ * The same load, with the whole answer.
+ *
+ *   answer  gets number, place, pages taken, pages free and tracker pages,
+ *           as many as fit; words after the fifth stay as they are. On
+ *           success number and place are 0, on a refusal the three counts
+ *           are 0.
+ *
+ * Returns the number too.
+ */
+uint32_t rigpollen_answer(const uint8_t *block, size_t block_length,
+                          const uint8_t *flash, size_t flash_length,
+                          uint8_t *ram, size_t ram_length,
+                          uint32_t ram_start,
+                          uint32_t *answer, size_t answer_length);
+
+/* ------------------------------------------------------------ the reader */
+
+/* What rigpollen_walk returns. */
+#define RIGPOLLEN_WALK_ABSENT   0u
+#define RIGPOLLEN_WALK_RESERVED 1u /* a stack page to come: no RAM yet */
+#define RIGPOLLEN_WALK_PAGE     2u
+
+/* Where the words about a page lie. */
+#define RIGPOLLEN_WALK_RIGHTS 0
+#define RIGPOLLEN_WALK_NUMBER 1
+#define RIGPOLLEN_WALK_WORDS  2
+
+/* Bits of the rights. These are not the bits of a table entry. */
+#define RIGPOLLEN_READ    1u
+#define RIGPOLLEN_WRITE   2u
+#define RIGPOLLEN_EXECUTE 4u
+#define RIGPOLLEN_USER    8u
+
+/*
+ * Walk the tables from a root table, as the MMU does.
+ *
+ *   ram, ram_start  the RAM that holds the tables. Any length and any start
+ *                   will do here; a table that is not wholly inside RAM
+ *                   reads as absent.
+ *   root            physical page number of the root table (address / 4,096:
+ *                   the low 22 bits of satp)
+ *   address         the virtual address
+ *   page            for a page, gets its rights and the physical page number
+ *                   of the 4,096 bytes that hold the address, as many as
+ *                   fit; words after the second stay as they are, and so
+ *                   does all of it when there is no page. The physical page
+ *                   can lie outside RAM.
+ *
+ * Returns RIGPOLLEN_WALK_ABSENT, RIGPOLLEN_WALK_RESERVED or
+ * RIGPOLLEN_WALK_PAGE.
+ */
+uint32_t rigpollen_walk(const uint8_t *ram, size_t ram_length,
+                        uint32_t ram_start,
+                        uint32_t root, uint32_t address,
+                        uint32_t *page, size_t page_length);
+
+/* ----------------------------------- what a loaded board has, and where */
+
+/* Virtual addresses that every process has in common (no user right). */
+#define RIGPOLLEN_BLOCK_COPY_ADDRESS   0xFFF00000u /* read        */
+#define RIGPOLLEN_TRACKER_ADDRESS      0xFFF40000u /* read, write */
+#define RIGPOLLEN_PROCESS_LIST_ADDRESS 0xFFF80000u /* read        */
+
+/*
+ * The tracker has one byte for each RAM page, rising, then one for each I/O
+ * page of the regions in record order: 0 is free, else the number of the
+ * process that owns the page. Pages of sections belong to their process, all
+ * other taken pages to process 1.
+ *
+ * The process list has three words for each process, from process 1 on:
+ */
+#define RIGPOLLEN_LIST_SATP  0 /* 2^31 + 2^22 * process + root's page number */
+#define RIGPOLLEN_LIST_ENTRY 1 /* entry point                                */
+#define RIGPOLLEN_LIST_STACK 2 /* stack pointer: 0x80000000, 0 for process 1 */
+#define RIGPOLLEN_LIST_WORDS 3
+
+/* The root table's page number in a satp word. */
+#define RIGPOLLEN_SATP_ROOT 0x003FFFFFu
+
+#ifdef __cplusplus
+}
+#endif
+
+#endif

@@ -1,0 +1,233 @@
+#include "board.h"
+
+#include <string.h>
+
+#include "plan.h"
+
+/* ------------------------------------------------------------- the block */
+
+static uint8_t *put(uint8_t *at, uint32_t word)
+{
+    for (int i = 0; i < 4; i++)
+        at[i] = (uint8_t)(word >> 8 * i);
+    return at + 4;
+}
+
+size_t write_block(const struct board *board, uint8_t block[MAX_BLOCK])
+{
+    const uint32_t p = board->processes, s = board->sections, r = board->regions;
+    const uint32_t sections_at = 32 + 16 * p, regions_at = sections_at + 16 * s;
+    const uint32_t header[8] = { 1, regions_at + 8 * r, p, 32,
+                                 s, sections_at, r, regions_at };
+    uint8_t *at = block;
+
+    for (int i = 0; i < 8; i++)
+        at = put(at, header[i]);
+    for (uint32_t i = 0; i < p; i++) {
+        at = put(at, board->process[i].entry);
+        at = put(at, board->process[i].first);
+        at = put(at, board->process[i].count);
+        at = put(at, 0);
+    }
+    for (uint32_t i = 0; i < s; i++) {
+        at = put(at, board->section[i].address);
+        at = put(at, board->section[i].size);
+        at = put(at, board->section[i].offset);
+        at = put(at, board->section[i].flags);
+    }
+    for (uint32_t i = 0; i < r; i++) {
+        at = put(at, board->region[i].start);
+        at = put(at, board->region[i].pages);
+    }
+    return (size_t)(at - block);
+}
+
+/* --------------------------------------------------------- random numbers */
+
+struct random {
+    uint64_t state;
+};
+
+/* splitmix64 */
+static uint64_t next(struct random *random)
+{
+    uint64_t z = random->state += 0x9E3779B97F4A7C15u;
+
+    z = (z ^ z >> 30) * 0xBF58476D1CE4E5B9u;
+    z = (z ^ z >> 27) * 0x94D049BB133111EBu;
+    return z ^ z >> 31;
+}
+
+/* From low to high, both included. */
+static uint32_t between(struct random *random, uint32_t low, uint32_t high)
+{
+    return low + (uint32_t)(next(random) % ((uint64_t)high - low + 1));
+}
+
+static int one_in(struct random *random, uint32_t n)
+{
+    return between(random, 1, n) == 1;
+}
+
+static void fill(struct random *random, uint8_t *bytes, size_t length)
+{
+    for (size_t i = 0; i < length; i++)
+        bytes[i] = (uint8_t)next(random);
+}
+
+void fill_random(uint8_t *bytes, size_t length, uint64_t seed)
+{
+    struct random random = { seed };
+
+    fill(&random, bytes, length);
+}
+
+/* -------------------------------------------------------- the small board */
+
+void small_board(struct board *board)
+{
+    const struct board small = {
+        .processes = 2, .sections = 3, .regions = 1,
+        .process = { { 0xFFC00010, 0, 1 }, { 0x00010020, 1, 2 } },
+        .section = { { 0xFFC00000, 256, 0, EXECUTABLE },
+                     { 0x00010020, 64, 256, EXECUTABLE },
+                     { 0x00020000, 4096, 0, NOCOPY | WRITABLE } },
+        .region = { { 0xF0000000, 2 } },
+        .flash_length = 320,
+        .pages = 16,
+    };
+
+    *board = small;
+    fill_random(board->flash, board->flash_length, 1);
+}
+
+/* ------------------------------------------------------- generated boards */
+
+/* Virtual pages that a process's sections may lie in. */
+struct range {
+    uint32_t low, high; /* first page, page after the last */
+};
+
+static const struct range user_range = { 0x00001, 0x7FFFC };
+static const struct range kernel_range = { 0xFFC00, 0xFFF00 };
+
+/* Pages left free before a section that could start at `page`: none, so that
+ * it touches the one before; a few; up to a 4 MiB block; up to all that `most`
+ * allows; or so many that it starts on the last page of a 4 MiB block. */
+static uint32_t gap(struct random *random, uint32_t page, uint32_t most)
+{
+    const uint32_t limits[4] = { 0, 3, 1023, most };
+    const uint32_t kind = between(random, 0, 4);
+    const uint32_t limit = kind == 4 ? 1023 - page % 1024 : limits[kind];
+    const uint32_t high = limit < most ? limit : most;
+
+    return kind == 4 ? high : between(random, 0, high);
+}
+
+/* A section's sub-page offset and size, for the pages it is to take. */
+static void shape(struct random *random, struct section *section,
+                  uint32_t page, uint32_t pages)
+{
+    const uint32_t kind = between(random, 0, 3);
+    const uint32_t offset = kind == 0 ? 0 : kind == 1 ? 4095
+                            : between(random, 0, 4095);
+    const uint32_t most = pages * PAGE_BYTES - offset;
+    const uint32_t least = pages == 1 ? 1 : most - PAGE_BYTES + 1;
+
+    section->address = page * PAGE_BYTES + offset;
+    section->size = one_in(random, 4) ? most : one_in(random, 4) ? least
+                    : between(random, least, most);
+}
+
+/* Where a section's bytes come from; sections may share flash bytes. */
+static void source(struct random *random, struct section *section,
+                   uint32_t flash_length)
+{
+    const uint32_t last = flash_length - section->size;
+
+    section->offset = section->flags & NOCOPY ? 0
+                      : one_in(random, 4) ? last : between(random, 0, last);
+}
+
+/* All six kinds of section in turn, so that each board has them all. */
+static uint32_t flags_in_turn(uint32_t turn)
+{
+    static const uint32_t flags[6] = {
+        EXECUTABLE, WRITABLE | NOCOPY, 0, WRITABLE, NOCOPY, EXECUTABLE | NOCOPY
+    };
+    return flags[turn % 6];
+}
+
+/* The sections of one process, rising; one of them is executable. */
+static void add_sections(struct random *random, struct board *board,
+                         struct range range, uint32_t count, int to_the_end)
+{
+    uint32_t page = range.low;
+
+    for (uint32_t i = 0; i < count; i++) {
+        struct section *section = &board->section[board->sections];
+        const uint32_t pages = between(random, 1, 4);
+        const uint32_t room = range.high - page - 4 * (count - i);
+
+        page += gap(random, page, room / (count - i));
+        if (to_the_end && i + 1 == count)
+            page = range.high - pages;
+        section->flags = i == 0 ? EXECUTABLE : flags_in_turn(board->sections);
+        shape(random, section, page, pages);
+        source(random, section, board->flash_length);
+        board->sections++;
+        page += pages;
+    }
+}
+
+static void add_process(struct random *random, struct board *board)
+{
+    struct process *process = &board->process[board->processes];
+    const int kernel = board->processes == 0;
+    const uint32_t count = between(random, 4, 7);
+    const struct section *code;
+
+    process->first = board->sections;
+    process->count = count;
+    add_sections(random, board, kernel ? kernel_range : user_range, count,
+                 one_in(random, 2));
+    code = &board->section[process->first];
+    process->entry = code->address + between(random, 0, code->size - 1);
+    board->processes++;
+}
+
+/* I/O regions; every second board has so many pages that the tracker takes
+ * two. The last region starts where RAM ends. */
+static void add_regions(struct random *random, struct board *board, int many)
+{
+    const struct region before = { 0x10000000, many ? 4000 : 2 };
+    const struct region touching = { IMAGE, between(random, 1, 96) };
+
+    board->region[0] = before;
+    board->region[1] = touching;
+    board->regions = 2;
+}
+
+/* As few pages as the board needs, or some more. The tracker's size depends on
+ * the pages, so the need is asked until it fits. */
+static void choose_pages(struct random *random, struct board *board)
+{
+    board->pages = one_in(random, 2) ? 0 : between(random, 1, 300);
+    while (pages_needed(board) > board->pages)
+        board->pages++;
+    board->region[1].start = IMAGE + board->pages * PAGE_BYTES;
+}
+
+void generated_board(struct board *board, uint64_t seed)
+{
+    struct random random = { seed };
+    const uint32_t processes = between(&random, 3, 4);
+
+    memset(board, 0, sizeof *board);
+    board->flash_length = between(&random, 4 * PAGE_BYTES, MAX_FLASH);
+    fill(&random, board->flash, board->flash_length);
+    while (board->processes < processes)
+        add_process(&random, board);
+    add_regions(&random, board, seed % 2 != 0);
+    choose_pages(&random, board);
+}
