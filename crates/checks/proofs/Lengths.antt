@@ -14,7 +14,7 @@ pub section-uses-length : (b : List ℕ) (q : ℕ) → length (sectionUses b q) 
 unfolding sectionUses
 section-uses-length b q = gather-length (sectionsOf b q) _ ∙ sum-same (sectionsOf b q) _ _ (λ j h. tab-length (pageCount b (sectionRecord b q j)) _)
 
--- the pages of process q: of its sections, and of its tables
+-- the pages of process i + 1: of its sections, and of its tables
 abbrev pub pagesBy : List ℕ → ℕ → ℕ
 pagesBy b i = length (sectionUses b (i + 1)) + length (tableUses b (i + 1))
 
@@ -30,7 +30,6 @@ pub pages-needed : (b : List ℕ) (N : ℕ) → 1 ≤ processCount b → pagesNe
 unfolding pagesNeeded uses order
 pages-needed b N h =
     let p = processCount b in
-    let T = trackerPages b N in
     let k = kernel-last p (λ q. length (sectionUses b q)) h in
     let a = sum-add p (λ i. length (sectionUses b (i + 1))) (λ i. length (tableUses b (i + 1))) in
     simp (length-append, tab-length, gather-length) (omega arith)

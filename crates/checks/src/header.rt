@@ -17,10 +17,7 @@ pub(crate) fn ram_unfit(start: u32, ram: usize) -> bool
     if start % 4096 != 0 {
         return true;
     }
-    if 0x1_0000_0000 < start as u64 + ram as u64 {
-        return true;
-    }
-    false
+    0x1_0000_0000 < start as u64 + ram as u64
 }
 
 // Refusal 3.
@@ -37,10 +34,7 @@ fn is_outside(lo: u32, hi: u32, n: u32) -> bool
     if n < lo {
         return true;
     }
-    if hi < n {
-        return true;
-    }
-    false
+    hi < n
 }
 
 // p, s or r is outside its bounds.
@@ -53,10 +47,7 @@ fn are_outside(p: u32, s: u32, r: u32) -> bool
     if is_outside(1, 64, s) {
         return true;
     }
-    if is_outside(0, 32, r) {
-        return true;
-    }
-    false
+    is_outside(0, 32, r)
 }
 
 // Refusal 4.
@@ -93,8 +84,5 @@ pub(crate) fn layout_not_tight(block: &[u8]) -> bool
     if length_field != length {
         return true;
     }
-    if block.len() != length {
-        return true;
-    }
-    false
+    block.len() != length
 }

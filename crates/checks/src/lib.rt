@@ -1,4 +1,4 @@
-// All of 01's refusals: everything is checked before anything is written.
+// All of 01's refusals. Neither flash nor RAM is read, so nothing is written before all is checked.
 use types::Verdict;
 ghost use mathlib.Core.Bool.{_&&_};
 ghost use mathlib.Core.Path.{_≡_};
@@ -55,7 +55,7 @@ fn number_if(given: bool, number: u32) -> u32
     if given { number } else { 0 }
 }
 
-// The number of the refusal at record i, or 0.
+// The number of the refusal at record i, or 0. Process i + 1 has record i.
 fn refusal_at(scan: Scan, block: &[u8], flash: usize, start: u32, ram: usize, i: u32) -> u32
     requires { ⌜ (ram ≤ 0x100_0000) × (i < 0xFFFF_FFFF) ⌝ }
     ensures { λ r. ⌜ r ≡ refusalAt scan (now (block .entry)) flash start ram i ⌝ }
@@ -85,7 +85,7 @@ fn first_refusal(scan: Scan, block: &[u8], flash: usize, start: u32, ram: usize)
     refused(0, 0)
 }
 
-// Refusals 6 to 12.
+// Refusals 6 to 12, in order.
 fn check_records(block: &[u8], flash: usize, start: u32, ram: usize) -> Verdict
     requires { ⌜ InBounds (now block) ram ⌝ }
     ensures { λ r. ⌜ r ≡ firstRefusal (drop 5 (checks (now (block .entry)) flash start ram)) ⌝ }
@@ -112,7 +112,7 @@ fn check_records(block: &[u8], flash: usize, start: u32, ram: usize) -> Verdict
     refused(0, 0)
 }
 
-// 01's verdict on a block, an image of `flash` bytes, and RAM of `ram` bytes from `start` on.
+// 01's verdict on a block, an image of `flash` bytes, and RAM of `ram` bytes from `start` on: refusals 1 to 5, then 6 to 12.
 pub fn check(block: &[u8], flash: usize, start: u32, ram: usize) -> Verdict
     ensures { λ r. ⌜ r ≡ verdict (now (block .entry)) flash start ram ⌝ }
 {

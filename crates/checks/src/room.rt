@@ -6,7 +6,7 @@ ghost use Rattle.rules.specs.Order.{sectionUses, pagesNeeded};
 ghost use Rattle.rules.specs.Refusals.{ramTooSmall};
 ghost use Rattle.checks.specs.Scan.{InBounds};
 
-// The pages of the sections of process q.
+// The pages of the sections of process q: fewer than 2^32 sections of at most 2^21 pages.
 fn section_pages(block: &[u8], q: u32) -> u64
     ensures { λ r. ⌜ (r ≡ length (sectionUses (now (block .entry)) q)) × (r ≤ 0x20_0000_0000_0000) ⌝ }
 {
@@ -23,7 +23,7 @@ fn section_pages(block: &[u8], q: u32) -> u64
     sum
 }
 
-// The pages needed on RAM of `pages` pages.
+// The pages needed, for RAM of `ram` bytes. The 6 are the four at the top, the process list and the copy of the block.
 fn pages_needed(block: &[u8], ram: usize) -> u64
     requires { ⌜ InBounds (now block) ram ⌝ }
     ensures { λ r. ⌜ r ≡ pagesNeeded (now (block .entry)) (ram / 4096) ⌝ }

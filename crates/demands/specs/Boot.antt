@@ -28,7 +28,7 @@ pub record Boot (b : List ℕ) (start len : ℕ) : Type 0 where
   pub whole : 4096 * (len / 4096) ≡ len
   pub room : Room b (start / 4096) (len / 4096)
 
-from-checks : (b : List ℕ) (flash start len : ℕ) → Every Passes (checks b flash start len) → Boot b start len
+pub from-checks : (b : List ℕ) (flash start len : ℕ) → Every Passes (checks b flash start len) → Boot b start len
 unfolding checks ramUnfit countsOutOfBounds outside ramTooSmall
 from-checks b flash start len ps =
     let good : (i : ℕ) → _ = any-none _ (ps .0) in

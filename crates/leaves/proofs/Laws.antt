@@ -29,10 +29,6 @@ mark-between n first last m f h g = record {
 }
 
 -- MARKED TWICE
-pub marked-length : (t : ℕ → Bool) (l : List ℕ) → length (alsoMarked t l) ≡ length l
-unfolding alsoMarked
-marked-length t l = tab-length (length l) _
-
 pub marked-twice : (t u : ℕ → Bool) (l : List ℕ) → alsoMarked t (alsoMarked u l) ≡ alsoMarked (λ m. choose (t m) true (u m)) l
 unfolding alsoMarked
 marked-twice t u l = rw tab-length (tab-same (length l) _ _ 0 (λ m h. rw (tab-get (length l) (λ k. choose (u k) 1 (getD l k 0)) m 0 h) (choose-either (t m) (u m) 1 (getD l m 0))))

@@ -1,4 +1,4 @@
-// The leaf tables of a process, by root slot.
+// Which leaf tables a process has, by root slot. Nothing here goes page by page.
 ghost use mathlib.Core.Bool.{_&&_};
 ghost use mathlib.Core.Path.{_≡_};
 ghost use Prim.Native.Nat.{_≤_};
@@ -56,7 +56,7 @@ pub fn leaf_marks(block: &[u8], q: u32, marks: &mut [u8])
     mark(marks, 511, 511);
 }
 
-// The sum of the marks.
+// The sum of at most 1,024 marks.
 fn marked(marks: &[u8]) -> u32
     requires { ⌜ length (now marks) ≤ 1024 ⌝ }
     ensures { λ r. ⌜ (r ≡ sum (length (now (marks .entry))) (λ m. getD (now (marks .entry)) m 0)) × (r ≤ 261120) ⌝ }

@@ -32,5 +32,8 @@ needed-more b N needed i n d e l =
     let m : tablesBefore b (i + 1) ≤ tablesBefore b (processCount b) = tables-le b (i + 1) (omega arith) in
     record { counted = omega (arith, d .counted); most = omega (arith, d .counted, needed-parts b N) }
 
-pub needed-all : (b : List ℕ) (N needed i : ℕ) → Needed b N needed i → i ≡ processCount b → needed ≡ pagesNeeded b N
-needed-all b N needed i d e = d .counted ∙ sym (needed-parts b N ∙ rw e)
+pub needed-at : (b : List ℕ) (N needed i n : ℕ) → Needed b N needed i → i ≡ n → needed ≡ trackerPlace b + trackerPages b N + 2 + tablesBefore b n
+needed-at b N needed i n d e = rw e at (d .counted)
+
+pub needed-all : (b : List ℕ) (N p needed : ℕ) → p ≡ processCount b → needed ≡ trackerPlace b + trackerPages b N + 2 + tablesBefore b p → needed ≡ pagesNeeded b N
+needed-all b N p needed e d = d ∙ sym (needed-parts b N ∙ rw e)

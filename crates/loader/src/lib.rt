@@ -9,8 +9,10 @@ ghost use Rattle.rules.specs.Load.{loaded, answer, ramAfter};
 ghost use Rattle.writing.specs.Pages.{put};
 ghost use Rattle.writing.specs.Loaded.{content};
 ghost use Rattle.loader.specs.Fits.{Fits};
+ghost use Rattle.loader.specs.Roots.{rootFound};
 use pages::PageAllocator;
 use types::Answer;
+use types::PhysPage;
 
 mod leaf_entries;
 mod places;
@@ -39,7 +41,7 @@ fn load_pages(block: &[u8], flash: &[u8], ram: &mut [u8], start: u32) -> u32
 {
     let pages = (ram.len() / 4096) as u32;
     let base = start / 4096;
-    let needed = places::pages_needed(block, pages);
+    let needed = places::place_after_tables(block, pages, records::process_count(block));
     let below_top = PageAllocator { left: pages - 4 };
     let after_sections = sections::load_sections(ram, block, flash, below_top);
     let after_tracker = tracker::load_tracker(ram, block, pages, needed, after_sections);
@@ -75,4 +77,30 @@ pub fn load(block: &[u8], flash: &[u8], ram: &mut [u8], start: u32) -> Answer
         free,
         tracker,
     }
+}
+
+// Where the root table of a process is.
+pub enum Root {
+    // The block is refused, or has no such process.
+    Nowhere,
+    At(PhysPage),
+}
+
+// The root table of process q, by the order of pages, for an image of `flash` bytes and RAM of `ram` bytes from `start` on.
+pub fn find_root(block: &[u8], flash: usize, start: u32, ram: usize, q: u32) -> Root
+    ensures { λ r. ⌜ r ≡ rootFound (now (block .entry)) flash start ram q ⌝ }
+{
+    let verdict = checks::check(block, flash, start, ram);
+    if verdict.number != 0 {
+        return Root::Nowhere;
+    }
+    if q == 0 {
+        return Root::Nowhere;
+    }
+    if records::process_count(block) < q {
+        return Root::Nowhere;
+    }
+    let pages = (ram / 4096) as u32;
+    let place = places::place_after_tables(block, pages, q - 1);
+    Root::At(places::page_at(start / 4096, pages, place))
 }

@@ -3,7 +3,7 @@ ghost use mathlib.Core.Path.{_≡_};
 ghost use Prim.Native.Nat.{_+_, _-_, _≤_, _<_};
 ghost use Rattle.rules.specs.Block.{processCount};
 ghost use Rattle.rules.specs.Order.{trackerPages, pagesNeeded};
-ghost use Rattle.placement.specs.Places.{userPages, sectionPlace, trackerPlace};
+ghost use Rattle.placement.specs.Places.{userPages, sectionPlace, trackerPlace, tablesBefore};
 use types::PhysPage;
 
 // The section pages of processes 2 to n + 1.
@@ -56,17 +56,16 @@ pub(crate) fn page_at(base: u32, pages: u32, place: u32) -> PhysPage
     PhysPage(base + (pages - 1 - place))
 }
 
-// The pages needed on RAM of `pages` pages.
-pub(crate) fn pages_needed(block: &[u8], pages: u32) -> u32
-    requires { ⌜ (1 ≤ processCount (now block)) × (processCount (now block) ≤ 16) × (pagesNeeded (now block) pages ≤ 4096) ⌝ }
-    ensures { λ r. ⌜ r ≡ pagesNeeded (now (block .entry)) pages ⌝ }
+// The place after the tables of the first n processes.
+pub(crate) fn place_after_tables(block: &[u8], pages: u32, n: u32) -> u32
+    requires { ⌜ (1 ≤ processCount (now block)) × (processCount (now block) ≤ 16) × (pagesNeeded (now block) pages ≤ 4096) × (n ≤ processCount (now block)) ⌝ }
+    ensures { λ r. ⌜ r ≡ trackerPlace (now (block .entry)) + trackerPages (now (block .entry)) pages + 2 + tablesBefore (now (block .entry)) n ⌝ }
 {
-    let count = records::process_count(block);
-    let mut needed = tracker_place(block) + tracker_pages(block, pages) + 2;
+    let mut place = tracker_place(block) + tracker_pages(block, pages) + 2;
     let mut i: u32 = 0;
-    while i < count {
-        needed += leaves::table_count(block, i + 1);
+    while i < n {
+        place += leaves::table_count(block, i + 1);
         i += 1;
     }
-    needed
+    place
 }

@@ -6,6 +6,7 @@ ghost use Rattle.rules.specs.Block.{processCount, sectionCount, regionCount, se
 ghost use Rattle.rules.specs.Order.{trackerPages};
 ghost use Rattle.records.specs.Read.{IsProcess, IsSection, IsRegion};
 
+// A process record.
 pub struct Process {
     pub entry_point: u32,
     pub first_section: u32,
@@ -34,28 +35,28 @@ pub struct Region {
     pub end: u64,
 }
 
-// p
+// The process count, p.
 pub fn process_count(block: &[u8]) -> u32
     ensures { λ r. ⌜ r ≡ processCount (now (block .entry)) ⌝ }
 {
     slices::word(block, 8)
 }
 
-// s
+// The section count, s.
 pub fn section_count(block: &[u8]) -> u32
     ensures { λ r. ⌜ r ≡ sectionCount (now (block .entry)) ⌝ }
 {
     slices::word(block, 16)
 }
 
-// r
+// The region count, r.
 pub fn region_count(block: &[u8]) -> u32
     ensures { λ r. ⌜ r ≡ regionCount (now (block .entry)) ⌝ }
 {
     slices::word(block, 24)
 }
 
-// The record of process q. A process 0 would have that of process 1.
+// The record of process q, which is record q - 1. There is no process 0: its record would be that of process 1.
 pub fn read_process(block: &[u8], q: u32) -> Process
     ensures { λ r. ⌜ IsProcess (now (block .entry)) q r ⌝ }
 {
@@ -76,18 +77,17 @@ fn bit(n: u32, k: u32) -> bool
     n / k % 2 == 1
 }
 
-// An offset that has the words of section record n.
+// Where the words of section record n are read. Past the end all words are 0, and 16 n might wrap.
 fn section_offset(block: &[u8], n: usize) -> usize
     ensures { λ r. ⌜ (r < 0xFFFF_FFFF_FFFF_FF00) × ((k : ℕ) → word (now (block .entry)) (r + k) ≡ word (now (block .entry)) (sectionAt (now (block .entry)) n + k)) ⌝ }
 {
-    // Past the end all words are 0; there 16 n might wrap.
     if block.len() / 16 < n {
         return block.len();
     }
     32 + 16 * (process_count(block) as usize) + 16 * n
 }
 
-// Section record n.
+// Section record n. (Its pages are counted from its address: a size / 4,096 rounded up would miss one.)
 pub fn read_section(block: &[u8], n: usize) -> Section
     ensures { λ r. ⌜ IsSection (now (block .entry)) n r ⌝ }
 {
@@ -127,7 +127,7 @@ pub fn read_region(block: &[u8], i: u32) -> Region
     }
 }
 
-// The I/O pages of the first n regions.
+// The I/O pages of the first n regions. Each has fewer than 2^32.
 pub fn io_pages_of(block: &[u8], n: u32) -> u64
     ensures { λ r. ⌜ (r ≡ ioPagesOf (now (block .entry)) n) × (r ≤ 4294967295 * n) ⌝ }
 {

@@ -40,9 +40,8 @@ refused-requires : tie.Need-refused-requires
 refused-requires c κs = search needs
 
 returns : tie.Need-returns
-unfolding left checks verdict
-returns c =
-    c .refused .ensures ∙ whole-stop _ _ _ (sym (c .before .before .ram-unfit .ensures) ∙ c .before .if1 .taken)
+unfolding checks verdict
+returns c = c .refused .ensures ∙ whole-stop _ _ _ (sym (c .before .before .ram-unfit .ensures) ∙ c .before .if1 .taken)
 
 refused-requires-2 : tie.Need-refused-requires-2
 refused-requires-2 c κs = search needs

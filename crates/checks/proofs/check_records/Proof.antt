@@ -34,7 +34,7 @@ first-refusal-requires : tie.Need-first-refusal-requires
 first-refusal-requires c κs = search needs
 
 returns : tie.Need-returns
-unfolding left checks recordCount refusalAt
+unfolding checks recordCount refusalAt
 returns c = records-stop _ _ _ _ (c .before .before .first-refusal .ensures) (c .if1 .taken)
 
 first-refusal-requires-2 : tie.Need-first-refusal-requires-2

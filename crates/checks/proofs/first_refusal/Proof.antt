@@ -9,6 +9,7 @@ use Rattle.checks.proofs.Verdicts.{scan-end, scan-next, scan-stop}
 use Rattle.checks.proofs.first_refusal.Statement.{statement}
 use Rattle.checks.proofs.first_refusal.Tie as tie
 
+-- the records from i on give what all give
 abbrev Inv-loop : tie.InvT-loop
 Inv-loop scan block flash start ram n i₀ i = (i ≤ n) × (firstRecord (refusalAt scan block flash start ram) i (n - i) accepted ≡ firstRecord (refusalAt scan block flash start ram) 0 (recordCount scan block) accepted)
 

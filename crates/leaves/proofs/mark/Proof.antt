@@ -8,6 +8,7 @@ use Rattle.leaves.proofs.Laws.{mark-between}
 use Rattle.leaves.proofs.mark.Statement.{statement}
 use Rattle.leaves.proofs.mark.Tie as tie
 
+-- so far the slots from first up to m are marked
 abbrev Inv-loop : tie.InvT-loop
 Inv-loop marks₀ first last end m₀ marks m = (first ≤ m) × (m ≤ max first end) × Written (λ k. 1) first m marks₀ marks
 

@@ -9,6 +9,7 @@ use Rattle.leaves.proofs.Laws.{sections-start, sections-turn}
 use Rattle.leaves.proofs.mark_sections.Statement.{statement}
 use Rattle.leaves.proofs.mark_sections.Tie as tie
 
+-- so far the slots of the first j sections are marked
 abbrev Inv-loop : tie.InvT-loop
 Inv-loop block q marks₀ first sections j₀ marks j = (j ≤ sections) × (length marks ≡ length marks₀) × (marks ≡ alsoMarked (touched block q j) marks₀)
 

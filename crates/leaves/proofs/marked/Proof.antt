@@ -8,6 +8,7 @@ use Rattle.laws.specs.Counts.{sum-none, sum-next}
 use Rattle.leaves.proofs.marked.Statement.{statement}
 use Rattle.leaves.proofs.marked.Tie as tie
 
+-- so far the sum of the marks below m
 abbrev Inv-loop : tie.InvT-loop
 Inv-loop marks total₀ m₀ total m = (m ≤ length marks) × (total ≡ sum m (λ i. getD marks i 0)) × (total ≤ 255 * m)
 

@@ -22,21 +22,21 @@ cast-pages : tie.Need-cast-pages
 cast-pages c =
     let checked = c .before .before in
     let start = checked .before .before .before .before in
-    let ok = accepted-fits (start .args .block .now) (start .args .flash .now) (start .args .start) (start .args .ram .now) _ (checked .check .ensures) (c .if1 .left) in
+    let ok = accepted-fits _ _ _ _ _ (checked .check .ensures) (c .if1 .left) in
     omega (arith, ok .0 .few-pages)
 
 tracker-pages-requires : tie.Need-tracker-pages-requires
 tracker-pages-requires c κs =
     let checked = c .before .before in
     let start = checked .before .before .before .before in
-    let ok = accepted-fits (start .args .block .now) (start .args .flash .now) (start .args .start) (start .args .ram .now) _ (checked .check .ensures) (c .if1 .left) in
+    let ok = accepted-fits _ _ _ _ _ (checked .check .ensures) (c .if1 .left) in
     tracker-few _ _ _ (ok .0)
 
 load-pages-requires : tie.Need-load-pages-requires
 load-pages-requires c κs =
     let checked = c .before .before .before .before in
     let start = checked .before .before .before .before in
-    let ok = accepted-fits (start .args .block .now) (start .args .flash .now) (start .args .start) (start .args .ram .now) _ (checked .check .ensures) (c .before .before .if1 .left) in
+    let ok = accepted-fits _ _ _ _ _ (checked .check .ensures) (c .before .before .if1 .left) in
     ok
 
 sub-t14 : tie.Need-sub-t14
@@ -49,7 +49,7 @@ returns-2 : tie.Need-returns-2
 returns-2 c =
     let checked = c .before .before .before .before .before .before .before in
     let start = checked .before .before .before .before in
-    let ok = accepted-fits (start .args .block .now) (start .args .flash .now) (start .args .start) (start .args .ram .now) _ (checked .check .ensures) (c .before .before .before .before .before .if1 .left) in
+    let ok = accepted-fits _ _ _ _ _ (checked .check .ensures) (c .before .before .before .before .before .if1 .left) in
     let loaded = c .before .before in
     boot-answer _ (start .args .flash .now) _ (start .args .ram .now) _ _ _ _ (checked .check .ensures) (c .before .before .before .before .before .if1 .left)
     (ok .0) (loaded .load-pages .ensures .0) (loaded .before .before .tracker-pages .ensures) (loaded .load-pages .ensures .1)

@@ -2,6 +2,7 @@ use mathlib.Core.List.{[]}
 use Prim.Native.Nat.{_/_}
 use lib.ListN.{length}
 use Rattle.loader.proofs.Loading.{needed-four, counted, list-place, tables-place, list-room, pages-end}
+use Rattle.loader.proofs.Needed.{needed-all}
 use native.Mathlib.Omega.{arith}
 use borrow.Author.Needs.{needs}
 use Rattle.loader.proofs.load_pages.Statement.{statement}
@@ -9,21 +10,27 @@ use Rattle.loader.proofs.load_pages.Tie as tie
 use Rattle.loader.proofs.load_pages.Reads as reads
 use Rattle.loader.proofs.load_pages.Lts as lts
 use Rattle.loader.proofs.load_block.Reads as load-block-reads
-use Rattle.loader.proofs.places.pages_needed.Reads as pages-needed-reads
+use Rattle.loader.proofs.places.place_after_tables.Reads as place-after-tables-reads
 use Rattle.loader.proofs.process_list.load_process_list.Reads as load-process-list-reads
 use Rattle.loader.proofs.table_pages.load_tables.Reads as load-tables-reads
 use Rattle.loader.proofs.tracker.load_tracker.Reads as load-tracker-reads
+use Rattle.records.proofs.process_count.Reads as process-count-reads
 use Rattle.sections.proofs.load_sections.Reads as load-sections-reads
 
 cast-pages : tie.Need-cast-pages
 cast-pages c = search needs
 
-pages-needed-requires : tie.Need-pages-needed-requires
-pages-needed-requires c κs = search needs
+process-count-requires : tie.Need-process-count-requires
+process-count-requires c κs = search needs
+
+place-after-tables-requires : tie.Need-place-after-tables-requires
+place-after-tables-requires c κs =
+    let start = c .before .before .before .before in
+    (start .pre .0 .some-process, start .pre .0 .few-processes, omega (arith, start .pre .0 .enough, start .pre .0 .few-pages), omega (arith, c .process-count .ensures))
 
 sub-t16 : tie.Need-sub-t16
 sub-t16 c =
-    let start = c .before .before .before .before in
+    let start = c .before .before .before .before .before in
     omega (arith, needed-four (start .args .block .now) (length (start .args .ram .now) / 4096), start .pre .0 .enough)
 
 load-sections-requires : tie.Need-load-sections-requires
@@ -32,13 +39,13 @@ load-sections-requires c κs = search needs
 load-tracker-requires : tie.Need-load-tracker-requires
 load-tracker-requires c κs =
     let counting = c .before .before .before .before .before in
-    counted _ _ _ _ (counting .before .before .before .before .pre .0) (counting .pages-needed .ensures)
+    counted _ _ _ _ (counting .before .before .before .before .before .pre .0) (needed-all _ _ _ _ (counting .before .process-count .ensures) (counting .place-after-tables .ensures))
 
 load-process-list-requires : tie.Need-load-process-list-requires
 load-process-list-requires c κs =
     let tracked = c .before .before .before in
     let loaded = tracked .before .before .before .before in
-    let start = loaded .before .before .before .before .before .before in
+    let start = loaded .before .before .before .before .before .before .before in
     let place = list-place _ _ _ _ (loaded .load-sections .ensures .0) (tracked .load-tracker .ensures .0) in
     (start .pre .0, place, list-room _ _ _ _ _ _ _ _ _ _ _ (loaded .load-sections .ensures .1) (tracked .load-tracker .ensures .1 [] 0) place)
 
@@ -51,7 +58,7 @@ load-tables-requires c κs =
     let listed = copied .before .before .before .before in
     let tracked = listed .before .before .before .before in
     let loaded = tracked .before .before .before .before in
-    let start = loaded .before .before .before .before .before .before in
+    let start = loaded .before .before .before .before .before .before .before in
     let place = list-place _ _ _ _ (loaded .load-sections .ensures .0) (tracked .load-tracker .ensures .0) in
     (start .pre .0, tables-place _ _ _ _ _ place (listed .load-process-list .ensures .0) (copied .load-block .ensures .0))
 
@@ -65,7 +72,7 @@ returns c =
     let listed = copied .before .before .before .before in
     let tracked = listed .before .before .before .before in
     let loaded = tracked .before .before .before .before in
-    let start = loaded .before .before .before .before .before .before in
+    let start = loaded .before .before .before .before .before .before .before in
     let flash = start .args .flash .now in
     pages-end _ flash _ _ _ _ _ _ _ _ _ _ _ _ (start .pre .0) (start .pre .1)
     (loaded .load-sections .ensures .0) (loaded .load-sections .ensures .1)
@@ -79,7 +86,8 @@ load-pages-spec =
     tie.close
     (tie.spec
     cast-pages
-    pages-needed-requires
+    process-count-requires
+    place-after-tables-requires
     sub-t16
     load-sections-requires
     load-tracker-requires

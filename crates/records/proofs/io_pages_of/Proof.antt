@@ -7,6 +7,7 @@ use Rattle.rules.specs.Block.{ioPagesOf, regionPages}
 use Rattle.records.proofs.io_pages_of.Statement.{statement}
 use Rattle.records.proofs.io_pages_of.Tie as tie
 
+-- so far the pages of the regions below i
 abbrev Inv-loop : tie.InvT-loop
 Inv-loop block n sum₀ i₀ sum i = (i ≤ n) × (sum ≡ ioPagesOf block i) × (sum ≤ 4294967295 * i)
 

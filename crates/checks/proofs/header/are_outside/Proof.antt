@@ -1,6 +1,7 @@
 use mathlib.Core.Path.{sym, _∙_}
 use borrow.Author.Needs.{needs}
 use Rattle.notation.specs.Choice.{any}
+use Rattle.laws.specs.Choice.{or-none}
 use Rattle.checks.proofs.header.are_outside.Statement.{statement}
 use Rattle.checks.proofs.header.are_outside.Tie as tie
 
@@ -23,11 +24,10 @@ is-outside-requires-3 c κs = search needs
 
 returns-3 : tie.Need-returns-3
 unfolding any
-returns-3 c = rw (sym (c .before .before .before .before .before .is-outside .ensures) ∙ c .before .before .before .before .if1 .left, sym (c .before .before .before .is-outside2 .ensures) ∙ c .before .before .if2 .left, sym (c .before .is-outside3 .ensures) ∙ c .if3 .taken)
-
-returns-4 : tie.Need-returns-4
-unfolding any
-returns-4 c = rw (sym (c .before .before .before .before .before .is-outside .ensures) ∙ c .before .before .before .before .if1 .left, sym (c .before .before .before .is-outside2 .ensures) ∙ c .before .before .if2 .left, sym (c .before .is-outside3 .ensures) ∙ c .if3 .left)
+returns-3 c =
+    let t = c .before .before in
+    c .is-outside3 .ensures
+    ∙ rw (sym (t .before .before .is-outside .ensures) ∙ t .before .if1 .left, sym (t .is-outside2 .ensures) ∙ c .before .if2 .left) (or-none _)
 
 pub are-outside-spec : {M : Type 1} → statement M
 are-outside-spec =
@@ -38,5 +38,4 @@ are-outside-spec =
     is-outside-requires-2
     returns-2
     is-outside-requires-3
-    returns-3
-    returns-4)
+    returns-3)

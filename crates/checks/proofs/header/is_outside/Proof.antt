@@ -1,5 +1,6 @@
 use borrow.Author.Tests.{le-ltb, lt-ltb}
 use Rattle.notation.specs.Choice.{any}
+use Rattle.laws.specs.Choice.{or-none}
 use Rattle.rules.specs.Refusals.{outside}
 use Rattle.checks.proofs.header.is_outside.Statement.{statement}
 use Rattle.checks.proofs.header.is_outside.Tie as tie
@@ -10,11 +11,7 @@ returns c = rw (lt-ltb _ _ (c .if1 .taken))
 
 returns-2 : tie.Need-returns-2
 unfolding outside any
-returns-2 c = rw (le-ltb _ _ (c .before .if1 .left), lt-ltb _ _ (c .if2 .taken))
-
-returns-3 : tie.Need-returns-3
-unfolding outside any
-returns-3 c = rw (le-ltb _ _ (c .before .if1 .left), le-ltb _ _ (c .if2 .left))
+returns-2 c = rw (le-ltb _ _ (c .if1 .left)) (or-none _)
 
 pub is-outside-spec : {M : Type 1} → statement M
-is-outside-spec = tie.close (tie.spec returns returns-2 returns-3)
+is-outside-spec = tie.close (tie.spec returns returns-2)

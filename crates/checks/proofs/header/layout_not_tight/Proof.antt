@@ -1,14 +1,15 @@
-use mathlib.Core.Path.{_≡_}
-use mathlib.Core.List.{[], _∷_}
 use mathlib.Core.Bool.{not}
+use mathlib.Core.List.{[], _∷_}
+use mathlib.Core.Path.{_≡_}
 use Prim.Native.Nat.{_+_, _*_}
-use lib.ListN.{length}
 use lib.Dec.{eqb}
+use lib.ListN.{length}
 use borrow.Author.Tests.{eq-eqb, ne-eqb}
 use borrow.Author.Needs.{needs}
 use Rattle.notation.specs.Choice.{any}
-use Rattle.rules.specs.Block.{processOffset, sectionOffset, regionOffset, lengthField, tightLength, regionsAt, sectionsAt}
+use Rattle.laws.specs.Choice.{or-none}
 use Rattle.rules.specs.Refusals.{layoutNotTight}
+use Rattle.rules.specs.Block.{processOffset, sectionOffset, regionOffset, lengthField, tightLength, regionsAt, sectionsAt}
 use Rattle.checks.proofs.header.layout_not_tight.Statement.{statement}
 use Rattle.checks.proofs.header.layout_not_tight.Tie as tie
 
@@ -115,11 +116,7 @@ returns-4 c = rw (tests (c .before .before .before .before), eq-eqb _ _ (c .befo
 
 returns-5 : tie.Need-returns-5
 unfolding any
-returns-5 c = rw (tests (c .before .before .before .before .before), eq-eqb _ _ (c .before .before .before .before .if1 .left), eq-eqb _ _ (c .before .before .before .if2 .left), eq-eqb _ _ (c .before .before .if3 .left), eq-eqb _ _ (c .before .if4 .left), ne-eqb _ _ (c .if5 .taken))
-
-returns-6 : tie.Need-returns-6
-unfolding any
-returns-6 c = rw (tests (c .before .before .before .before .before), eq-eqb _ _ (c .before .before .before .before .if1 .left), eq-eqb _ _ (c .before .before .before .if2 .left), eq-eqb _ _ (c .before .before .if3 .left), eq-eqb _ _ (c .before .if4 .left), eq-eqb _ _ (c .if5 .left))
+returns-5 c = rw (tests (c .before .before .before .before), eq-eqb _ _ (c .before .before .before .if1 .left), eq-eqb _ _ (c .before .before .if2 .left), eq-eqb _ _ (c .before .if3 .left), eq-eqb _ _ (c .if4 .left)) (or-none _)
 
 pub layout-not-tight-spec : {M : Type 1} → statement M
 layout-not-tight-spec =
@@ -148,5 +145,4 @@ layout-not-tight-spec =
     returns-2
     returns-3
     returns-4
-    returns-5
-    returns-6)
+    returns-5)

@@ -1,6 +1,7 @@
 use borrow.Author.Tests.{eq-eqb, le-ltb, lt-ltb, ne-eqb}
 use borrow.Author.Needs.{needs}
 use Rattle.notation.specs.Choice.{any}
+use Rattle.laws.specs.Choice.{or-none}
 use Rattle.rules.specs.Refusals.{ramUnfit}
 use Rattle.checks.proofs.header.ram_unfit.Statement.{statement}
 use Rattle.checks.proofs.header.ram_unfit.Tie as tie
@@ -17,16 +18,12 @@ returns-3 : tie.Need-returns-3
 unfolding ramUnfit any
 returns-3 c = rw (eq-eqb _ _ (c .before .before .if1 .left), le-ltb _ _ (c .before .if2 .left), ne-eqb _ _ (c .if3 .taken))
 
-add-if4 : tie.Need-add-if4
-add-if4 c = search needs
+add-result : tie.Need-add-result
+add-result c = search needs
 
 returns-4 : tie.Need-returns-4
 unfolding ramUnfit any
-returns-4 c = rw (eq-eqb _ _ (c .before .before .before .if1 .left), le-ltb _ _ (c .before .before .if2 .left), eq-eqb _ _ (c .before .if3 .left), lt-ltb _ _ (c .if4 .taken))
-
-returns-5 : tie.Need-returns-5
-unfolding ramUnfit any
-returns-5 c = rw (eq-eqb _ _ (c .before .before .before .if1 .left), le-ltb _ _ (c .before .before .if2 .left), eq-eqb _ _ (c .before .if3 .left), le-ltb _ _ (c .if4 .left))
+returns-4 c = rw (eq-eqb _ _ (c .before .before .if1 .left), le-ltb _ _ (c .before .if2 .left), eq-eqb _ _ (c .if3 .left)) (or-none _)
 
 pub ram-unfit-spec : {M : Type 1} → statement M
-ram-unfit-spec = tie.close (tie.spec returns returns-2 returns-3 add-if4 returns-4 returns-5)
+ram-unfit-spec = tie.close (tie.spec returns returns-2 returns-3 add-result returns-4)

@@ -10,6 +10,7 @@ use Rattle.checks.proofs.Searches.{enters, enters-not, entered, not-ent
 use Rattle.checks.proofs.processes.entry_point_outside.Statement.{statement}
 use Rattle.checks.proofs.processes.entry_point_outside.Tie as tie
 
+-- so far no section below j has the entry point
 abbrev Inv-loop : tie.InvT-loop
 Inv-loop block i first sections entry-point j₀ j = (j ≤ sections) × (exists (enters block i) j ≡ false)
 

@@ -7,6 +7,7 @@ use Rattle.checks.proofs.Searches.{sections-before-none, sections-befor
 use Rattle.checks.proofs.processes.sections_before.Statement.{statement}
 use Rattle.checks.proofs.processes.sections_before.Tie as tie
 
+-- so far the sections of the process records below i
 abbrev Inv-loop : tie.InvT-loop
 Inv-loop block n sum₀ i₀ sum i = (i ≤ n) × (sum ≡ sectionsBefore block i) × (sum ≤ 4294967295 * i)
 

@@ -9,6 +9,7 @@ use Rattle.checks.proofs.Lengths.{pagesBy, pages-needed}
 use Rattle.checks.proofs.room.pages_needed.Statement.{statement}
 use Rattle.checks.proofs.room.pages_needed.Tie as tie
 
+-- so far the pages of the first i processes
 abbrev Inv-loop : tie.InvT-loop
 Inv-loop block ram p sum₀ i₀ sum i = (i ≤ p) × (sum ≡ total i (pagesBy block)) × (sum ≤ 0x40_0000_0000_0000 * i)
 

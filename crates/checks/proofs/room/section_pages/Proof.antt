@@ -9,6 +9,7 @@ use Rattle.checks.proofs.Lengths.{section-uses-length}
 use Rattle.checks.proofs.room.section_pages.Statement.{statement}
 use Rattle.checks.proofs.room.section_pages.Tie as tie
 
+-- so far the pages of the first j sections
 abbrev Inv-loop : tie.InvT-loop
 Inv-loop block q first sections sum₀ j₀ sum j = (j ≤ sections) × (sum ≡ total j (λ k. pageCount block (sectionRecord block q k))) × (sum ≤ 0x20_0000 * j)
 

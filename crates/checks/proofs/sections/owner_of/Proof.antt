@@ -6,6 +6,7 @@ use Rattle.checks.proofs.Searches.{Searched, owner-here, owner-below, o
 use Rattle.checks.proofs.sections.owner_of.Statement.{statement}
 use Rattle.checks.proofs.sections.owner_of.Tie as tie
 
+-- the owner is one of the first q processes, if there is one
 abbrev Inv-loop : tie.InvT-loop
 Inv-loop block n q₀ q = Searched block n q × (q < 0x1_0000_0000)
 

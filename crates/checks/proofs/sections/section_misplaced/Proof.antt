@@ -61,5 +61,3 @@ section-misplaced-spec =
     range-last-requires
     record-misplaced-requires
     returns)
-
--- x
