@@ -1,0 +1,62 @@
+// Demand 3 as two calls: the same block and flash on two RAMs, and what a process sees on both.
+ghost use mathlib.Core.Path.{_≡_};
+ghost use Rattle.two_boards.specs.Promise.{seenAt, OneBoard, TwoBoards};
+use loader::Root;
+use types::Answer;
+use types::View;
+
+// The answer of a call, and what the process sees at the address after it.
+pub struct Board {
+    pub answer: Answer,
+    pub seen: View,
+}
+
+pub struct Boards {
+    pub first: Board,
+    pub second: Board,
+}
+
+// What is seen by way of a root, or nothing.
+fn seen_at(root: Root, ram: &[u8], start: u32, address: u32) -> View
+    ensures { λ r. ⌜ r ≡ seenAt root (now (ram .entry)) start address ⌝ }
+{
+    match root {
+        Root::Nowhere => View::Absent,
+        Root::At(page) => reader::seen_from(ram, start, page, address),
+    }
+}
+
+// Loads block and flash into RAM, and asks what process q sees at an address. Its root is found by the order of pages.
+pub fn boot_one(
+    block: &[u8],
+    flash: &[u8],
+    ram: &mut [u8],
+    start: u32,
+    q: u32,
+    address: u32,
+) -> Board
+    ensures { λ r. ⌜ OneBoard (now (block .entry)) (now (flash .entry)) start (now (ram .entry)) (now (ram .exit)) q address r ⌝ }
+{
+    let root = loader::find_root(block, flash.len(), start, ram.len(), q);
+    let answer = loader::load(block, flash, ram, start);
+    let seen = seen_at(root, ram, start, address);
+    Board { answer, seen }
+}
+
+// Loads the same block and flash into two RAMs, and asks on both what process q sees at an address.
+pub fn boot_both(
+    block: &[u8],
+    flash: &[u8],
+    ram: &mut [u8],
+    start: u32,
+    second_ram: &mut [u8],
+    second_start: u32,
+    q: u32,
+    address: u32,
+) -> Boards
+    ensures { λ r. ⌜ TwoBoards (now (block .entry)) (now (flash .entry)) start «second_start» (now (ram .entry)) (now («second_ram» .entry)) (now (ram .exit)) (now («second_ram» .exit)) q address r ⌝ }
+{
+    let first = boot_one(block, flash, ram, start, q, address);
+    let second = boot_one(block, flash, second_ram, second_start, q, address);
+    Boards { first, second }
+}
