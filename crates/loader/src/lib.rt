@@ -90,8 +90,8 @@ pub enum Root {
 pub fn find_root(block: &[u8], flash: usize, start: u32, ram: usize, q: u32) -> Root
     ensures { λ r. ⌜ r ≡ rootFound (now (block .entry)) flash start ram q ⌝ }
 {
-    let verdict = checks::check(block, flash, start, ram);
-    if verdict.number != 0 {
+    let checked = checks::check(block, flash, start, ram);
+    if checked.number != 0 {
         return Root::Nowhere;
     }
     if q == 0 {
