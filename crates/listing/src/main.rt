@@ -1,0 +1,253 @@
+// listing BLOCK FLASH START PAGES: loads a boot block file and a flash file into RAM of so many pages, which starts at physical
+// address START, and prints the listing of 01. With no arguments it lists the small board. What is wrong with an argument is
+// said in one line on standard error, and nothing else is printed.
+ghost use mathlib.Core.Path.{_≡_};
+ghost use lib.ListN.{length};
+ghost use Prim.Native.Nat.{_≤_};
+use libc::STDERR_FILENO;
+use libc::STDOUT_FILENO;
+
+// RAM's pages at most.
+const PAGES: u32 = 16;
+
+// The bytes of a file, put at the start of a buffer; or the file is longer than the buffer, which is full then; or it was said
+// why the file cannot be read.
+enum File {
+    Whole(usize),
+    Longer,
+    Unread,
+}
+
+// A number of an argument; or it was said what is wrong with it.
+enum Number {
+    Value(u32),
+    Unread,
+}
+
+fn complain(line: &[u8]) {
+    io::write_all(STDERR_FILENO, line);
+}
+
+// Loads, and prints the listing. RAM has 16 pages at most.
+fn list(block: &[u8], flash: &[u8], start: u32, pages: u32) {
+    let mut ram = io::large_buffer();
+    let end = slices::least(4096 * (pages as usize), 65536);
+    // 16 processes have less text than that.
+    let mut text = [0u8; 1024];
+    let n = report::load_listing(block, flash, &mut ram[..end], start, &mut text);
+    io::write_all(STDOUT_FILENO, slices::part(&text, 0, n));
+}
+
+fn list_small_board() {
+    let flash = [0u8; small::FLASH];
+    list(&small::block(), &flash, small::START, PAGES);
+}
+
+// Opens the file that argument i names; `name` is what the usage calls it. Below 0 it was said why not.
+fn open_argument(i: usize, name: &[u8]) -> i32 {
+    let mut path = io::buffer();
+    let n = os::arg(i, &mut path);
+    if os::errno() != 0 {
+        os::fail(name);
+        return -1;
+    }
+    let fd = os::open_read(&path[..n]);
+    if fd < 0 {
+        os::fail(name);
+    }
+    fd
+}
+
+// What is left to read shows whether the file ended, goes on or cannot be read.
+fn read_to_end(fd: i32, buf: &mut [u8], name: &[u8]) -> File {
+    let n = io::read_full(fd, buf);
+    let mut next = [0u8; 1];
+    let more = libc::read(fd, &mut next);
+    if more < 0 {
+        os::fail(name);
+        return File::Unread;
+    }
+    if more > 0 {
+        return File::Longer;
+    }
+    File::Whole(n)
+}
+
+fn read_argument(i: usize, buf: &mut [u8], name: &[u8]) -> File {
+    let fd = open_argument(i, name);
+    if fd < 0 {
+        return File::Unread;
+    }
+    let file = read_to_end(fd, buf, name);
+    libc::close(fd);
+    file
+}
+
+// Stands for no number of 32 bits.
+const NO_NUMBER: u64 = 0x1_0000_0000;
+
+// A digit's value, 16 for any other byte.
+fn digit_value(c: u8) -> u64
+    ensures { λ r. ⌜ r ≤ 16 ⌝ }
+{
+    if c < b'0' {
+        return 16;
+    }
+    if c <= b'9' {
+        return (c - b'0') as u64;
+    }
+    if c < b'A' {
+        return 16;
+    }
+    if c <= b'F' {
+        return (c - b'A') as u64 + 10;
+    }
+    if c < b'a' {
+        return 16;
+    }
+    if c <= b'f' {
+        return (c - b'a') as u64 + 10;
+    }
+    16
+}
+
+// The number with one more digit.
+fn with_digit(value: u64, base: u64, c: u8) -> u64
+    requires { ⌜ base ≤ 16 ⌝ }
+    ensures { λ r. ⌜ r ≤ 0x1_0000_0000 ⌝ }
+{
+    let d = digit_value(c);
+    if d >= base {
+        return NO_NUMBER;
+    }
+    if value >= NO_NUMBER {
+        return NO_NUMBER;
+    }
+    let longer = value * base + d;
+    if longer > NO_NUMBER {
+        return NO_NUMBER;
+    }
+    longer
+}
+
+// The number that all bytes of `text` spell in base 10 or 16.
+fn number_in(text: &[u8], base: u64) -> u64
+    requires { ⌜ base ≤ 16 ⌝ }
+{
+    if text.len() == 0 {
+        return NO_NUMBER;
+    }
+    let mut value: u64 = 0;
+    let mut i = 0;
+    while i < text.len() {
+        value = with_digit(value, base, text[i]);
+        i += 1;
+    }
+    value
+}
+
+// A number in decimal, or in hexadecimal after 0x.
+fn number_of(text: &[u8]) -> u64 {
+    if slices::byte(text, 0) == b'0' {
+        if slices::byte(text, 1) == b'x' {
+            return number_in(slices::tail(text, 2), 16);
+        }
+    }
+    number_in(text, 10)
+}
+
+// The number that argument i spells; else `line` is said.
+fn number_argument(i: usize, line: &[u8]) -> Number {
+    let mut text = io::buffer();
+    let n = os::arg(i, &mut text);
+    if os::errno() != 0 {
+        complain(line);
+        return Number::Unread;
+    }
+    let value = number_of(&text[..n]);
+    if value >= NO_NUMBER {
+        complain(line);
+        return Number::Unread;
+    }
+    Number::Value(value as u32)
+}
+
+fn list_on_board(block: &[u8], flash: &[u8]) {
+    let start = number_argument(
+        3,
+        b"listing: START: not a number below 2^32, decimal or hexadecimal after 0x\n",
+    );
+    let Number::Value(address) = start else {
+        return;
+    };
+    let size = number_argument(
+        4,
+        b"listing: PAGES: not a number below 2^32, decimal or hexadecimal after 0x\n",
+    );
+    let Number::Value(pages) = size else {
+        return;
+    };
+    if pages > PAGES {
+        complain(b"listing: PAGES: over 16\n");
+        return;
+    }
+    list(block, flash, address, pages);
+}
+
+// A flash file has at most so many bytes.
+fn flash_space() -> [u8; 262144]
+    ensures { λ r. ⌜ 262144 ≡ length r ⌝ }
+{
+    [0; 262144]
+}
+
+fn list_with_flash(block: &[u8]) {
+    let mut flash = flash_space();
+    let file = read_argument(2, &mut flash, b"listing: FLASH");
+    match file {
+        File::Whole(n) => list_on_board(block, slices::part(&flash, 0, n)),
+        File::Longer => complain(b"listing: FLASH: over 262,144 bytes\n"),
+        File::Unread => {}
+    }
+}
+
+// A block that is accepted has at most 1,568 bytes. So of a longer file no more than the buffer holds can matter: it is refused
+// by its length or before.
+fn list_arguments() {
+    let mut block = io::buffer();
+    let file = read_argument(1, &mut block, b"listing: BLOCK");
+    match file {
+        File::Whole(n) => list_with_flash(slices::part(&block, 0, n)),
+        File::Longer => list_with_flash(slices::part(&block, 0, 4096)),
+        File::Unread => {}
+    }
+}
+
+// Of 2, 3 or 4 arguments, the program's own name among them.
+fn complain_missing(count: usize) {
+    if count == 2 {
+        complain(b"listing: FLASH is missing: listing BLOCK FLASH START PAGES\n");
+    } else if count == 3 {
+        complain(b"listing: START is missing: listing BLOCK FLASH START PAGES\n");
+    } else {
+        complain(b"listing: PAGES is missing: listing BLOCK FLASH START PAGES\n");
+    }
+}
+
+fn main() {
+    // The program's own name counts too.
+    let count = os::arg_count();
+    if count < 2 {
+        list_small_board();
+        return;
+    }
+    if count < 5 {
+        complain_missing(count);
+        return;
+    }
+    if count > 5 {
+        complain(b"listing: too many arguments: listing BLOCK FLASH START PAGES\n");
+        return;
+    }
+    list_arguments();
+}
