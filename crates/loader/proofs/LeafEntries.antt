@@ -22,6 +22,7 @@ use Rattle.rules.specs.Space.{Data, sectionPage, trackerPage, processList, bloc
 use Rattle.rules.specs.Order.{Use, holds, hasLeaf, pagesFor, trackerPages, uses, pagesNeeded}
 use Rattle.rules.specs.Entries.{absentEntry, reservedEntry, pageEntry}
 use Rattle.rules.specs.Tables.{entryFor, leafEntry}
+use Rattle.laws.specs.Counts.{sum-le}
 use Rattle.rules.specs.Load.{physPage}
 use Rattle.placement.specs.Places.{At, pagesBefore, processPages, userPages, sectionPlace, trackerPlace, user-pages-next, pages-before-none, pages-before-next, order-count, place-section, place-tracker, place-process-list, place-block-copy, ram-page-at}
 use Rattle.tables.specs.Filled.{sectionMapped, stackReserved}
@@ -29,15 +30,6 @@ use Rattle.loader.specs.Fits.{Fits}
 use Rattle.loader.specs.LeafEntries.{entriesOf, trackerMapped}
 
 -- PLACES
--- fewer terms
-sum-le : (m n : ℕ) (f : ℕ → ℕ) → m ≤ n → sum m f ≤ sum n f
-unfolding sum
-sum-le m zero f h = let e : m ≡ 0 = omega arith in rw e (omega arith)
-sum-le m (suc n) f h = elim (ℕ-discrete m (suc n)) [
-  | yes e ↦ rw e (omega arith)
-  | no e ↦ omega (arith, sum-le m n f (omega arith))
-]
-
 user-pages-le : (b : List ℕ) (m n : ℕ) → m ≤ n → userPages b m ≤ userPages b n
 unfolding userPages
 user-pages-le b m n h = sum-le m n _ h

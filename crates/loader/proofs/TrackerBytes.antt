@@ -214,10 +214,6 @@ pub tracker-fits : {b : List ℕ} {N needed : ℕ} → Counted b N needed → tr
 unfolding pagesNeeded uses
 tracker-fits {b} {N} c = omega (arith, c .needed-is, c .enough, order-count b (trackerPages b N))
 
-pub count-is : (b : List ℕ) (N r io : ℕ) → r ≡ regionCount b → io ≡ ioPagesOf b r → (N + io + 4095) / 4096 ≡ trackerPages b N
-unfolding trackerPages pagesFor ioPages
-count-is b N r io er ei = rw (ei, er)
-
 abbrev pub trackerUses : ℕ → List Use
 trackerUses n = tab n (λ i. holds (trackerPage i))
 
