@@ -36,7 +36,8 @@ pub enum View {
     Outside(Rights),
 }
 
-// Number 0 and place 0: it boots. Else the number of the refusal, and its place: the record it was found at, counted from 0.
+// Number 0 and place 0: it boots. Else the number of the refusal, and its place: the record it was found at, counted from 0; 0 where
+// it is of no record.
 pub struct Verdict {
     pub number: u32,
     pub place: u32,
