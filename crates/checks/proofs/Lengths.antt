@@ -1,5 +1,5 @@
 -- The length of the order of pages, counted process by process.
-use mathlib.Core.Path.{_≡_, _∙_}
+use mathlib.Core.Path.{_≡_}
 use mathlib.Core.List.{List}
 use Prim.Native.Nat.{ℕ, zero, suc, _+_, _-_, _≤_}
 use native.Mathlib.Omega.{arith}
@@ -7,16 +7,13 @@ use lib.ListN.{length, length-append}
 use Rattle.notation.specs.Lists.{sum}
 use Rattle.laws.specs.Lists.{tab-length}
 use Rattle.laws.specs.Counts.{sum-same, sum-add, sum-first, gather-length}
-use Rattle.rules.specs.Block.{processCount, sectionsOf, sectionRecord, pageCount}
-use Rattle.rules.specs.Order.{sectionUses, tableUses, order, trackerPages, uses, pagesNeeded}
-
-pub section-uses-length : (b : List ℕ) (q : ℕ) → length (sectionUses b q) ≡ sum (sectionsOf b q) (λ j. pageCount b (sectionRecord b q j))
-unfolding sectionUses
-section-uses-length b q = gather-length (sectionsOf b q) _ ∙ sum-same (sectionsOf b q) _ _ (λ j h. tab-length (pageCount b (sectionRecord b q j)) _)
+use Rattle.rules.specs.Block.{processCount}
+use Rattle.rules.specs.Order.{tableUses, order, trackerPages, uses, pagesNeeded}
+use Rattle.placement.specs.Places.{processPages, userPages, section-uses-length, user-uses-length}
 
 -- the pages of process i + 1: of its sections, and of its tables
 abbrev pub pagesBy : List ℕ → ℕ → ℕ
-pagesBy b i = length (sectionUses b (i + 1)) + length (tableUses b (i + 1))
+pagesBy b i = processPages b (i + 1) + length (tableUses b (i + 1))
 
 -- the kernel's sections come last, and count as the first
 kernel-last : (p : ℕ) (f : ℕ → ℕ) → 1 ≤ p → sum (p - 1) (λ i. f (i + 2)) + f 1 ≡ sum p (λ i. f (i + 1))
@@ -27,9 +24,9 @@ kernel-last (suc m) f h =
     rw e (omega (arith, s, sum-first m (λ i. f (i + 1))))
 
 pub pages-needed : (b : List ℕ) (N : ℕ) → 1 ≤ processCount b → pagesNeeded b N ≡ 6 + sum (processCount b) (pagesBy b) + trackerPages b N
-unfolding pagesNeeded uses order
+unfolding pagesNeeded uses order userPages
 pages-needed b N h =
     let p = processCount b in
-    let k = kernel-last p (λ q. length (sectionUses b q)) h in
-    let a = sum-add p (λ i. length (sectionUses b (i + 1))) (λ i. length (tableUses b (i + 1))) in
-    simp (length-append, tab-length, gather-length) (omega arith)
+    let k = kernel-last p (processPages b) h in
+    let a = sum-add p (λ i. processPages b (i + 1)) (λ i. length (tableUses b (i + 1))) in
+    simp (length-append, tab-length, section-uses-length, user-uses-length, gather-length) (omega arith)

@@ -1,8 +1,7 @@
 -- The pages of a process, section by section.
 use mathlib.Core.Path.{_≡_, sym, _∙_}
 use mathlib.Core.List.{List}
-use Prim.Native.Nat.{ℕ, _+_, _*_, _≤_}
-use native.Mathlib.Omega.{arith}
+use Prim.Native.Nat.{ℕ, _+_}
 use Rattle.rules.specs.Block.{firstSection, sectionsOf, sectionRecord, pageCount}
 use Rattle.placement.specs.Places.{pagesBefore, processPages, pages-before-next}
 
@@ -11,7 +10,6 @@ pub one-more : (b : List ℕ) (q j : ℕ) {pages first count : ℕ} → pages �
 unfolding sectionRecord
 one-more b q j e c f = sym (pages-before-next b q j ∙ rw (← f, ← c, ← e))
 
-pub all-pages : (b : List ℕ) (q j : ℕ) {pages : ℕ} → pages ≡ pagesBefore b q j → pages ≤ 0x20_0000 * j → j ≡ sectionsOf b q
-    → (pages ≡ processPages b q) × (pages ≤ 0x20_0000 * sectionsOf b q)
+pub all-pages : (b : List ℕ) (q j : ℕ) {pages : ℕ} → pages ≡ pagesBefore b q j → j ≡ sectionsOf b q → pages ≡ processPages b q
 unfolding processPages
-all-pages b q j e l s = (rw s at e, rw s at l)
+all-pages b q j e s = rw s at e

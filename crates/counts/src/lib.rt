@@ -1,12 +1,11 @@
-// How many pages the order of pages has in each of its parts.
+// How many pages the sections of a process have.
 ghost use mathlib.Core.Path.{_≡_};
-ghost use Prim.Native.Nat.{_*_, _≤_};
+ghost use Prim.Native.Nat.{_≤_};
 ghost use Rattle.placement.specs.Places.{processPages};
-ghost use Rattle.rules.specs.Block.{sectionsOf};
 
-// The section pages of process q.
+// The section pages of process q: fewer than 2^32 sections of at most 2^21 pages.
 pub fn process_pages(block: &[u8], q: u32) -> u64
-    ensures { λ r. ⌜ (r ≡ processPages (now (block .entry)) q) × (r ≤ 0x20_0000 * sectionsOf (now (block .entry)) q) ⌝ }
+    ensures { λ r. ⌜ (r ≡ processPages (now (block .entry)) q) × (r ≤ 0x20_0000_0000_0000) ⌝ }
 {
     let process = records::read_process(block, q);
     let first = process.first_section;

@@ -1,20 +1,19 @@
 -- Laws of the leaf tables: the places of what is mapped, and one mapping written over another.
 use mathlib.Core.Path.{_≡_, refl, sym, _∙_}
-use mathlib.Core.Bool.{Bool, true, false}
+use mathlib.Core.Bool.{Bool, true, false, _&&_}
 use mathlib.Core.List.{List}
 use mathlib.Core.Option.{some}
 use Prim.Native.Nat.{ℕ, zero, suc, _+_, _-_, _*_, _/_, _%_, _≤_, _<_}
 use native.Mathlib.Nat.{mod-eq-of-lt}
-use native.Mathlib.Decide.{ℕ-discrete}
+use native.Mathlib.Decide.{decLt, ℕ-discrete}
 use native.Mathlib.Omega.{arith}
 use lib.Dec.{leb, eqb}
-use lib.ListN.{length, getD, set}
+use lib.ListN.{length, getD}
 use borrow.Author.Tests.{eq-eqb, ne-eqb, eqb-true, leb-true, ltb-true, le-leb, lt-leb, lt-ltb, le-ltb}
 use Rattle.notation.specs.Choice.{choose}
 use Rattle.notation.specs.Lists.{tab, sum, findLast}
 use Rattle.laws.specs.Choice.{choose-yes, choose-no, choose-map, and-left, and-right}
 use Rattle.laws.specs.Lists.{tab-length, tab-get, tab-same, find-last-none, find-last-next}
-use Rattle.slices.proofs.Written.{Written, written-none, written-more, chosen-is}
 use Rattle.records.specs.Read.{IsSection}
 use Rattle.records.specs.declared.Section.{Section}
 use Rattle.rules.specs.Block.{processCount, sectionsOf, sectionRecord, firstSection, firstPage, lastPage, pageCount, writable, executable, regionCount, ioPagesOf, ioPages}
@@ -25,9 +24,9 @@ use Rattle.rules.specs.Tables.{entryFor, leafEntry}
 use Rattle.laws.specs.Counts.{sum-le}
 use Rattle.rules.specs.Load.{physPage}
 use Rattle.placement.specs.Places.{At, pagesBefore, processPages, userPages, sectionPlace, trackerPlace, user-pages-next, pages-before-none, pages-before-next, order-count, place-section, place-tracker, place-process-list, place-block-copy, ram-page-at}
-use Rattle.tables.specs.Filled.{sectionMapped, stackReserved}
+use Rattle.tables.specs.Filled.{pagesMapped, stackReserved}
 use Rattle.loader.specs.Fits.{Fits}
-use Rattle.loader.specs.LeafEntries.{entriesOf, trackerMapped}
+use Rattle.loader.specs.LeafEntries.{entriesOf}
 
 -- PLACES
 user-pages-le : (b : List ℕ) (m n : ℕ) → m ≤ n → userPages b m ≤ userPages b n
@@ -90,14 +89,22 @@ unfolding choose
 choose-same true x y z h = h refl
 choose-same false x y z h = refl
 
--- one entry, as a choice
-set-is : (e : List ℕ) (k x : ℕ) (t : ℕ → Bool) → ((i : ℕ) → i ≡ k → t i ≡ true) → ((i : ℕ) → (i ≡ k → ⊥) → t i ≡ false)
-    → set e k x ≡ tab (length e) (λ i. choose (t i) x (getD e i 0))
-set-is e k x t y n = chosen-is (written-more (written-none (λ _. x) k k e refl) (k + 1) refl refl (omega arith)) (record {
-  hit = λ i _ l h. y i (omega arith);
-  low = λ i _ l. n i (λ z. omega arith);
-  high = λ i _ l. n i (λ z. omega arith);
-})
+-- one page, and T pages, as a first and a last one
+one-page : (x v : ℕ) → (leb x v && leb v x) ≡ eqb v x
+one-page x v = elim (ℕ-discrete v x) [
+  | yes e ↦ rw (eq-eqb v x e, le-leb x v (omega arith), le-leb v x (omega arith))
+  | no e ↦ elim (decLt v x) [
+    | yes l ↦ rw (ne-eqb v x e, lt-leb x v l)
+    | no l ↦ rw (ne-eqb v x e, le-leb x v (omega arith), lt-leb v x (omega arith))
+  ]
+]
+
+tracker-test : (T v : ℕ) → 1 ≤ T → (leb 0xFFF40 v && leb v (0xFFF40 + (T - 1))) ≡ inTracker T v
+unfolding inTracker
+tracker-test T v h = elim (decLt v (0xFFF40 + T)) [
+  | yes l ↦ rw (lt-ltb v (0xFFF40 + T) l, le-leb v (0xFFF40 + (T - 1)) (omega arith))
+  | no l ↦ rw (le-ltb v (0xFFF40 + T) (omega arith), lt-leb v (0xFFF40 + (T - 1)) (omega arith))
+]
 
 module _ (phys : Use → ℕ) (m : ℕ) where
   entries-same : (f g : ℕ → Mapping) → ((v : ℕ) → f v ≡ g v) → entriesOf phys f m ≡ entriesOf phys g m
@@ -116,40 +123,26 @@ module _ (phys : Use → ℕ) (m : ℕ) where
       let v : ℕ = 1024 * m + i in
       rw (tab-get 1024 f i 0 l) (choose-same (t v) _ _ _ (h i l) ∙ sym (choose-map (entryFor phys) (t v) (new v) (old v)))))
 
-  page-over : (old : ℕ → Mapping) (k v x : ℕ) (d : Data) (w r u : Bool) (e : List ℕ)
+  -- the virtual pages lo to hi are mapped over `old`, where `test` says the same of a page as lo and hi do
+  pages-over : (old new : ℕ → Mapping) (lo hi first : ℕ) (w r u : Bool) (test : ℕ → Bool) (e : List ℕ)
       → e ≡ entriesOf phys old m
-      → v ≡ 1024 * m + k
-      → x ≡ pageEntry (phys (holds d)) w r u
-      → set e k x ≡ entriesOf phys (λ n. choose (eqb n v) (maps d w r u) (old n)) m
+      → ((v : ℕ) → (leb lo v && leb v hi) ≡ test v)
+      → ((v : ℕ) → test v ≡ true → pageEntry ((first - (v - lo)) % 0x40_0000) w r u ≡ entryFor phys (new v))
+      → pagesMapped e m lo hi first w r u ≡ entriesOf phys (λ v. choose (test v) (new v) (old v)) m
+  unfolding pagesMapped
+  pages-over old new lo hi first w r u test e p s h =
+      over old new (λ v. leb lo v && leb v hi) _ e p (λ i _ c. h (1024 * m + i) (rw (s (1024 * m + i)) at c))
+      ∙ entries-same _ _ (λ v. rw (s v))
+
+  page-over : (old : ℕ → Mapping) (x P : ℕ) (d : Data) (w r u : Bool) (e : List ℕ)
+      → e ≡ entriesOf phys old m
+      → P % 0x40_0000 ≡ phys (holds d)
+      → pagesMapped e m x x P w r u ≡ entriesOf phys (λ v. choose (eqb v x) (maps d w r u) (old v)) m
   unfolding entryFor
-  page-over old k v x d w r u e p a q =
-      set-is e k x (λ i. eqb (1024 * m + i) v) (λ i z. eq-eqb (1024 * m + i) v (omega arith)) (λ i n. ne-eqb (1024 * m + i) v (λ z. n (omega arith)))
-      ∙ over old (λ _. maps d w r u) (λ n. eqb n v) (λ _. x) e p (λ i _ _. q)
-
--- THE TRACKER
-abbrev pub trackerEntry : ℕ → ℕ → ℕ
-trackerEntry first k = pageEntry (first - (1024 * 1023 + k - 0xFFF40)) true false false
-
-pub tracker-turn : (first i x : ℕ) {d₀ d d′ : List ℕ} → Written (trackerEntry first) 0x340 (0x340 + i) d₀ d
-    → x ≡ pageEntry ((first - i) % 0x40_0000) true false false
-    → d′ ≡ set d (0x340 + i) x
-    → first < 0x40_0000
-    → Written (trackerEntry first) 0x340 (0x340 + (i + 1)) d₀ d′
-tracker-turn first i x w e p h =
-    let n : (first - i) % 0x40_0000 ≡ first - (1024 * 1023 + (0x340 + i) - 0xFFF40) = mod-eq-of-lt (omega arith) ∙ omega arith in
-    rw p (written-more w _ (omega arith) (e ∙ rw n) (omega arith))
-
-pub tracker-end : (first i T : ℕ) {d₀ d : List ℕ} → Written (trackerEntry first) 0x340 (0x340 + i) d₀ d → i ≡ T → d ≡ trackerMapped d₀ T first
-unfolding trackerMapped inTracker
-tracker-end first i T w e = chosen-is w (record {
-  hit = λ k _ l h. rw (le-leb 0xFFF40 (1024 * 1023 + k) (omega arith), lt-ltb (1024 * 1023 + k) (0xFFF40 + T) (omega arith));
-  low = λ k _ l. rw (lt-leb 0xFFF40 (1024 * 1023 + k) (omega arith));
-  high = λ k _ l. rw (le-leb 0xFFF40 (1024 * 1023 + k) (omega arith), le-ltb (1024 * 1023 + k) (0xFFF40 + T) (omega arith));
-})
-
-pub tracker-pages-is : (b : List ℕ) (N n io : ℕ) → n ≡ regionCount b → io ≡ ioPagesOf b n → (N + io + 4095) / 4096 ≡ trackerPages b N
-unfolding trackerPages pagesFor ioPages
-tracker-pages-is b N n io c e = rw (e, c)
+  page-over old x P d w r u e p h = pages-over old (λ _. maps d w r u) x x P w r u (λ v. eqb v x) e p (one-page x) (λ v c.
+      let s : v ≡ x = eqb-true v x c in
+      let z : P - (v - x) ≡ P = omega arith in
+      rw (z, h))
 
 -- SECTIONS
 -- what stands at virtual page v once the first n sections of process q are mapped
@@ -188,12 +181,12 @@ module _ {b : List ℕ} {base N : ℕ} (fits : Fits b base N) (q j : ℕ) (lo : 
   section-over : (m P : ℕ) (user : Bool) (e : List ℕ) → let n = sectionRecord b q j in
       e ≡ entriesOf (physPage b base N) (ofFirst b q user j) m
       → P ≡ base + (N - 1 - (sectionPlace b q + pagesBefore b q j))
-      → sectionMapped e m (firstPage b n) (lastPage b n) P (writable b n) (executable b n) user ≡ entriesOf (physPage b base N) (ofFirst b q user (j + 1)) m
-  unfolding sectionMapped hasPage ofFirst sectionMapping entryFor
+      → pagesMapped e m (firstPage b n) (lastPage b n) P (writable b n) (executable b n) user ≡ entriesOf (physPage b base N) (ofFirst b q user (j + 1)) m
+  unfolding hasPage ofFirst sectionMapping entryFor
   section-over m P user e p a =
       let n : ℕ = sectionRecord b q j in
-      over (physPage b base N) m (ofFirst b q user j) (λ v. sectionMapping b q v user (some j)) (λ v. hasPage b v n) _ e p
-      (λ i _ c. rw (section-phys (1024 * m + i) P c a))
+      pages-over (physPage b base N) m (ofFirst b q user j) (λ v. sectionMapping b q v user (some j)) (firstPage b n) (lastPage b n) P _ _ _ (λ v. hasPage b v n) e p
+      (λ _. refl) (λ v c. rw (section-phys v P c a))
       ∙ entries-same _ m _ _ (λ v. sym (rw find-last-next (choose-map (sectionMapping b q v user) (hasPage b v n) (some j) _)))
 
 pub mapped-more : {b : List ℕ} {base N q m : ℕ} {user : Bool} {j place : ℕ} {e : List ℕ} → Mapped b base N q m user j place e
@@ -204,7 +197,7 @@ pub mapped-more : {b : List ℕ} {base N q m : ℕ} {user : Bool} {j place : ℕ
     → j < count
     → IsSection b (first + j) s
     → P ≡ base + (N - 1 - place)
-    → e′ ≡ sectionMapped e m (s .«first_page») (s .«last_page») P (s .writable) (s .executable) user
+    → e′ ≡ pagesMapped e m (s .«first_page») (s .«last_page») P (s .writable) (s .executable) user
     → Mapped b base N q m user (j + 1) (place + s .pages) e′
 unfolding sectionRecord
 mapped-more {b} {base} {N} {q} {m} {user} {j} {place} {e} t fits lo hi {P = P} {s} f c l is a w =
@@ -224,41 +217,44 @@ mapped-all t l = rw l at (t .done)
 
 -- THE WHOLE TABLE
 module _ {b : List ℕ} {base N : ℕ} (fits : Fits b base N) where
-  tracker-phys : (v P : ℕ) → inTracker (trackerPages b N) v ≡ true → P ≡ base + (N - 1 - trackerPlace b) → P - (v - 0xFFF40) ≡ physPage b base N (holds (trackerPage (v - 0xFFF40)))
+  tracker-phys : (v P : ℕ) → inTracker (trackerPages b N) v ≡ true → P ≡ base + (N - 1 - trackerPlace b)
+      → (P - (v - 0xFFF40)) % 0x40_0000 ≡ physPage b base N (holds (trackerPage (v - 0xFFF40)))
   unfolding inTracker pagesNeeded uses
   tracker-phys v P c e =
       let T : ℕ = trackerPages b N in
       let from : 0xFFF40 ≤ v = leb-true _ _ (and-left _ _ c) in
       let to : v < 0xFFF40 + T = ltb-true _ _ (and-right (leb 0xFFF40 v) _ c) in
       let a = place-tracker b T (v - 0xFFF40) (omega arith) in
-      phys-at fits _ _ _ a (omega (arith, fits .enough, a .inside))
+      phys-mod fits _ _ _ a (omega (arith, fits .enough, a .inside))
 
-  pub kernel-is : (place T copy first list x y : ℕ) (e₁ e₂ e₃ e₄ : List ℕ)
+  pub tracker-some : 1 ≤ trackerPages b N
+  unfolding trackerPages pagesFor
+  tracker-some = omega (arith, tracker-room fits)
+
+  pub kernel-is : (place T copy first list : ℕ) (e₁ e₂ e₃ e₄ : List ℕ)
       → place ≡ trackerPlace b
       → T ≡ trackerPages b N
       → first ≡ base + (N - 1 - place)
       → list ≡ base + (N - 1 - (place + T))
       → copy ≡ base + (N - 1 - (place + T + 1))
       → e₁ ≡ entriesOf (physPage b base N) (λ v. sectionAtPage b 1 v false) 1023
-      → x ≡ pageEntry (copy % 0x40_0000) false false false
-      → e₂ ≡ set e₁ 0x300 x
-      → e₃ ≡ trackerMapped e₂ T first
-      → y ≡ pageEntry (list % 0x40_0000) false false false
-      → e₄ ≡ set e₃ 0x380 y
+      → e₂ ≡ pagesMapped e₁ 1023 0xFFF00 0xFFF00 copy false false false
+      → e₃ ≡ pagesMapped e₂ 1023 0xFFF40 (0xFFF40 + (T - 1)) first true false false
+      → e₄ ≡ pagesMapped e₃ 1023 0xFFF80 0xFFF80 list false false false
       → e₄ ≡ entriesOf (physPage b base N) (kernelPage b (trackerPages b N)) 1023
-  unfolding kernelPage trackerMapped entryFor
-  kernel-is place T copy first list x y e₁ e₂ e₃ e₄ at-place pages at-first at-list at-copy p₁ px p₂ p₃ py p₄ =
+  unfolding kernelPage entryFor
+  kernel-is place T copy first list e₁ e₂ e₃ e₄ at-place pages at-first at-list at-copy p₁ p₂ p₃ p₄ =
       let K : ℕ = trackerPages b N in
       let phys : Use → ℕ = physPage b base N in
       let sections : ℕ → Mapping = λ v. sectionAtPage b 1 v false in
       let copied : ℕ → Mapping = λ v. choose (eqb v 0xFFF00) (maps blockCopy false false false) (sections v) in
       let tracked : ℕ → Mapping = λ v. choose (inTracker K v) (maps (trackerPage (v - 0xFFF40)) true false false) (copied v) in
       let q₂ : e₂ ≡ entriesOf phys copied 1023
-      = p₂ ∙ page-over phys 1023 sections 0x300 0xFFF00 x blockCopy false false false e₁ p₁ refl (px ∙ rw (phys-mod fits _ _ copy (place-block-copy b K) (omega arith))) in
+      = p₂ ∙ page-over phys 1023 sections 0xFFF00 copy blockCopy false false false e₁ p₁ (phys-mod fits _ _ copy (place-block-copy b K) (omega arith)) in
       let q₃ : e₃ ≡ entriesOf phys tracked 1023
-      = p₃ ∙ rw pages (over phys 1023 copied (λ v. maps (trackerPage (v - 0xFFF40)) true false false) (inTracker K) _ e₂ q₂
-      (λ i _ c. rw (tracker-phys (1024 * 1023 + i) first c (omega arith)))) in
-      p₄ ∙ page-over phys 1023 tracked 0x380 0xFFF80 y processList false false false e₃ q₃ refl (py ∙ rw (phys-mod fits _ _ list (place-process-list b K) (omega arith)))
+      = p₃ ∙ rw pages (pages-over phys 1023 copied (λ v. maps (trackerPage (v - 0xFFF40)) true false false) 0xFFF40 (0xFFF40 + (K - 1)) first true false false (inTracker K) e₂ q₂
+      (λ v. tracker-test K v tracker-some) (λ v c. rw (tracker-phys v first c (omega arith)))) in
+      p₄ ∙ page-over phys 1023 tracked 0xFFF80 list processList false false false e₃ q₃ (phys-mod fits _ _ list (place-process-list b K) (omega arith))
 
 pub user-is : (phys : Use → ℕ) (b : List ℕ) (q m : ℕ) (e : List ℕ) {e′ : List ℕ} → e ≡ entriesOf phys (λ v. sectionAtPage b q v true) m → e′ ≡ stackReserved e m
     → e′ ≡ entriesOf phys (userPage b q) m

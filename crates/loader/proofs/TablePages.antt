@@ -137,19 +137,19 @@ root-leaf b base N q first kernel m at h = by-test (λ c. hasLeaf b q m ≡ c
     (λ _ e. refl)
     refl
 
-pub root-page : (b : List ℕ) (base N q : ℕ) (r marks e e₁ e₂ : List ℕ) {r′ : List ℕ} (k first kernel pointer : ℕ)
+pub root-page : (b : List ℕ) (base N q : ℕ) (r marks e e₁ e₂ : List ℕ) {r′ : List ℕ} (k first kernel : ℕ)
     → LeavesAt b base N q first kernel → marks ≡ leafMarks b q 1024 → e ≡ tab 1024 (λ i. 0) → e₁ ≡ leavesPointed e marks first
-    → pointer ≡ pointerEntry (kernel % 0x40_0000) → e₂ ≡ set e₁ 1023 pointer
+    → e₂ ≡ set e₁ 1023 (pointerEntry (kernel % 0x40_0000))
     → r′ ≡ put r k (tableByte (λ i. getD e₂ i 0)) → r′ ≡ put r k (tableByte (rootEntry b (physPage b base N) q))
 unfolding rootEntry leavesPointed
-root-page b base N q r marks e e₁ e₂ k first kernel pointer at em ez e1 ep e2 p =
+root-page b base N q r marks e e₁ e₂ k first kernel at em ez e1 e2 p =
     let n : length e ≡ 1024 = ap length ez ∙ tab-length 1024 _ in
     let n₁ : length e₁ ≡ 1024 = ap length e1 ∙ tab-length (length e) _ ∙ n in
     let l : kernel < 0x40_0000 = at .kernel-small in
     p ∙ table-put r k _ _ (λ m h. elim (ℕ-discrete m 1023) [
-      | yes z ↦ rw (e2, z) (getD-set-same e₁ 1023 pointer 0 (omega arith) ∙ ep ∙ rw (mod-eq-of-lt l, at .kernel-leaf) (sym (choose-yes _ _ (eq-eqb 1023 1023 refl))))
+      | yes z ↦ rw (e2, z) (getD-set-same e₁ 1023 _ 0 (omega arith) ∙ rw (mod-eq-of-lt l, at .kernel-leaf) (sym (choose-yes _ _ (eq-eqb 1023 1023 refl))))
       | no z ↦
-          rw e2 (getD-set-other e₁ 1023 m pointer 0 z ∙ rw e1 (tab-get (length e) _ m 0 (omega arith)
+          rw e2 (getD-set-other e₁ 1023 m _ 0 z ∙ rw e1 (tab-get (length e) _ m 0 (omega arith)
           ∙ rw (em, marked-is b q m h, below-is b q m h, ez, tab-get {A = ℕ} 1024 (λ i. 0) m 0 h)
           (root-leaf b base N q first kernel m at h ∙ sym (choose-no _ _ (ne-eqb m 1023 z)))))
     ])

@@ -17,6 +17,7 @@ use Rattle.rules.specs.Space.{trackerPage, processList, blockCopy}
 use Rattle.rules.specs.Order.{Use, top, holds, sectionUses, hasLeaf, tableUses, order, uses, trackerPages, pagesFor, pagesNeeded, useOf, dataOwner, useOwner, owner}
 use Rattle.rules.specs.Contents.{tracker, dataByte}
 use Rattle.rules.specs.Load.{pageByte}
+use Rattle.demands.specs.Loaded.{tracker-byte}
 use Rattle.placement.specs.Places.{processPages, userPages, sectionPlace, trackerPlace, section-uses-length, user-uses-length, user-pages-next, order-count}
 use Rattle.writing.specs.Pages.{put}
 use Rattle.writing.specs.Uses.{writeUses, write-same, Wrote, wrote-page}
@@ -110,10 +111,6 @@ zero-byte n k = elim (decLt k n) [
 ]
 
 module _ (b : List ℕ) (N : ℕ) where
-  ram-byte : (k : ℕ) → k < N → trackerByte b N k ≡ owner (useOf b N k)
-  unfolding tracker
-  ram-byte k h = List·getD-append (tab N (λ k. owner (useOf b N k))) _ 0 k (rw tab-length h) ∙ tab-get N _ k 0 h
-
   -- after RAM's pages
   io-byte : (k : ℕ) → N ≤ k → trackerByte b N k ≡ 0
   unfolding tracker
@@ -121,13 +118,13 @@ module _ (b : List ℕ) (N : ℕ) where
 
   free-byte : (k : ℕ) → k < N - pagesNeeded b N → trackerByte b N k ≡ 0
   unfolding useOf pagesNeeded owner
-  free-byte k h = ram-byte k (omega arith) ∙ rw (lookup-outside (uses b N) (N - 1 - k) (omega arith))
+  free-byte k h = tracker-byte b N k (omega arith) ∙ rw (lookup-outside (uses b N) (N - 1 - k) (omega arith))
 
   owner-byte : (k i v : ℕ) → k + i + 1 ≡ N → Owned (order b (trackerPages b N)) i v → trackerByte b N k ≡ v
   unfolding useOf uses owner
   owner-byte k i v e o =
       let z : N - 1 - k ≡ i = omega arith in
-      ram-byte k (omega arith) ∙ rw (z, o .found) (o .owned)
+      tracker-byte b N k (omega arith) ∙ rw (z, o .found) (o .owned)
 
 -- the section pages of user processes are among those needed
 pub users-fit : {b : List ℕ} {N needed : ℕ} (t : ℕ) → Counted b N needed → t ≤ processCount b - 1 → 4 + userPages b t ≤ needed

@@ -2,7 +2,7 @@
 // in the order of pages.
 ghost use mathlib.Core.Bool.{true};
 ghost use mathlib.Core.Path.{_≡_};
-ghost use Prim.Native.Nat.{_+_, _-_, _≤_, _<_};
+ghost use Prim.Native.Nat.{_≤_};
 ghost use Rattle.notation.specs.Lists.{tab};
 ghost use Rattle.rules.specs.Block.{processCount};
 ghost use Rattle.rules.specs.Space.{sectionAtPage, kernelPage, userPage};
@@ -10,21 +10,21 @@ ghost use Rattle.rules.specs.Order.{hasLeaf, trackerPages};
 ghost use Rattle.rules.specs.Tables.{leafEntry};
 ghost use Rattle.rules.specs.Load.{physPage};
 ghost use Rattle.loader.specs.Fits.{Fits};
-ghost use Rattle.loader.specs.LeafEntries.{entriesOf, trackerMapped};
+ghost use Rattle.loader.specs.LeafEntries.{entriesOf};
 use crate::places::page_at;
 use crate::places::section_place;
 use crate::places::tracker_pages;
 use crate::places::tracker_place;
-use types::PhysPage;
+use types::VirtPage;
 
-// The entry of the kernel's leaf table for 0xFFF00000.
-const BLOCK_COPY: u32 = 0x300;
+// The virtual page of the block copy.
+const BLOCK_COPY: u32 = 0xFFF00;
 
-// The entry for 0xFFF40000, where the tracker's first page is.
-const TRACKER: u32 = 0x340;
+// The virtual page of the tracker's first page.
+const TRACKER: u32 = 0xFFF40;
 
-// The entry for 0xFFF80000.
-const PROCESS_LIST: u32 = 0x380;
+// The virtual page of the process list.
+const PROCESS_LIST: u32 = 0xFFF80;
 
 // Maps the sections of process q in the leaf table for root slot m, whose entries are all absent.
 fn map_sections(
@@ -46,23 +46,18 @@ fn map_sections(
     let mut j: u32 = 0;
     while j < count {
         let section = records::read_section(block, first as usize + j as usize);
-        tables::map_section(entries, m, section, page_at(base, pages, place), user);
+        tables::map_pages(
+            entries,
+            m,
+            VirtPage(section.first_page),
+            VirtPage(section.last_page),
+            page_at(base, pages, place),
+            section.writable,
+            section.executable,
+            user,
+        );
         place += section.pages;
         j += 1;
-    }
-}
-
-// Maps the tracker's pages in the kernel's leaf table, the first at physical page `first`, each next one at the next lower
-// page. What would stand past the table's end is left out.
-fn map_tracker(entries: &mut [u32], first: PhysPage, count: u32)
-    requires { ⌜ (count ≤ first .0 + 1) × (first .0 < 0x40_0000) ⌝ }
-    ensures { λ _. ⌜ now (entries .exit) ≡ trackerMapped (now (entries .entry)) count (first .0) ⌝ }
-{
-    let mut i: u32 = 0;
-    while i < count {
-        let entry = tables::page_entry(PhysPage(first.0 - i), true, false, false);
-        tables::map_page(entries, TRACKER + i, entry);
-        i += 1;
     }
 }
 
@@ -78,17 +73,13 @@ fn kernel_entries(entries: &mut [u32], block: &[u8], base: u32, pages: u32)
     let list = page_at(base, pages, place + count);
     let copy = page_at(base, pages, place + count + 1);
     map_sections(entries, block, base, pages, 1, 1023, false);
-    tables::map_page(
-        entries,
-        BLOCK_COPY,
-        tables::page_entry(copy, false, false, false),
-    );
-    map_tracker(entries, tracker, count);
-    tables::map_page(
-        entries,
-        PROCESS_LIST,
-        tables::page_entry(list, false, false, false),
-    );
+    let at = VirtPage(BLOCK_COPY);
+    tables::map_pages(entries, 1023, at, at, copy, false, false, false);
+    let from = VirtPage(TRACKER);
+    let to = VirtPage(TRACKER + (count - 1));
+    tables::map_pages(entries, 1023, from, to, tracker, true, false, false);
+    let at = VirtPage(PROCESS_LIST);
+    tables::map_pages(entries, 1023, at, at, list, false, false, false);
 }
 
 // A user process's leaf table for root slot m: its sections, and over them the stack reservation.

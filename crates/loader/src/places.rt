@@ -44,8 +44,7 @@ pub(crate) fn tracker_pages(block: &[u8], pages: u32) -> u32
     requires { ⌜ trackerPages (now block) pages ≤ 4096 ⌝ }
     ensures { λ r. ⌜ r ≡ trackerPages (now (block .entry)) pages ⌝ }
 {
-    let io = records::io_pages_of(block, records::region_count(block));
-    ((pages as u64 + io + 4095) / 4096) as u32
+    records::tracker_pages(block, pages) as u32
 }
 
 // The physical page of the use at a place.

@@ -50,7 +50,7 @@ fn load_root(
 {
     let mut entries = [0u32; 1024];
     tables::point_to_leaves(&mut entries, marks, first);
-    tables::map_page(&mut entries, 1023, tables::pointer_entry(kernel_leaf));
+    tables::point_to_kernel(&mut entries, kernel_leaf);
     store(ram, k, &entries);
 }
 

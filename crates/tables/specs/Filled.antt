@@ -11,8 +11,8 @@ use Rattle.rules.specs.Entries.{reservedEntry, pointerEntry, pageEntry}
 
 -- the leaf table for root slot m with the virtual pages v from `from` to `to` mapped: `from` to the physical page `first`,
 -- each next one to the next lower
-unfoldable pub sectionMapped : List ℕ → ℕ → ℕ → ℕ → ℕ → Bool → Bool → Bool → List ℕ
-sectionMapped e m from to first write execute user =
+unfoldable pub pagesMapped : List ℕ → ℕ → ℕ → ℕ → ℕ → Bool → Bool → Bool → List ℕ
+pagesMapped e m from to first write execute user =
     tab (length e) (λ i. let v = 1024 * m + i in
     choose (leb from v && leb v to) (pageEntry ((first - (v - from)) % 0x40_0000) write execute user) (getD e i 0))
 

@@ -5,12 +5,12 @@ ghost use Prim.Native.Nat.{_%_, _≤_};
 ghost use lib.ListN.{set};
 ghost use Rattle.notation.specs.Choice.{choose};
 ghost use Rattle.rules.specs.Entries.{pointerEntry, pageEntry};
-ghost use Rattle.tables.specs.Filled.{sectionMapped, stackReserved, leavesPointed};
-use records::Section;
+ghost use Rattle.tables.specs.Filled.{pagesMapped, stackReserved, leavesPointed};
 use types::PhysPage;
+use types::VirtPage;
 
 // The entry of a root table that points to the leaf table at `page`.
-pub fn pointer_entry(page: PhysPage) -> u32
+fn pointer_entry(page: PhysPage) -> u32
     ensures { λ r. ⌜ r ≡ pointerEntry (page .0 % 0x40_0000) ⌝ }
 {
     1024 * (page.0 % 0x40_0000) + 1
@@ -24,36 +24,35 @@ fn flag(set: bool, weight: u32) -> u32
 }
 
 // The entry of a leaf table for the readable page `page`, with these rights.
-pub fn page_entry(page: PhysPage, write: bool, execute: bool, user: bool) -> u32
+fn page_entry(page: PhysPage, write: bool, execute: bool, user: bool) -> u32
     ensures { λ r. ⌜ r ≡ pageEntry (page .0 % 0x40_0000) write execute user ⌝ }
 {
     1024 * (page.0 % 0x40_0000) + (3 + flag(write, 4) + flag(execute, 8) + flag(user, 16))
 }
 
-// Maps the pages of a section that lie in the leaf table for root slot `slot`. The section's first page is at physical
-// page `first`, each next one at the next lower page, or at page 0 once they run out.
-pub fn map_section(entries: &mut [u32], slot: u32, section: Section, first: PhysPage, user: bool)
-    ensures { λ _. ⌜ now (entries .exit) ≡ sectionMapped (now (entries .entry)) slot (section .«first_page») (section .«last_page») (first .0) (section .writable) (section .executable) user ⌝ }
+// Maps the virtual pages `from` to `to` that lie in the leaf table for root slot `slot`: `from` to physical page `first`,
+// each next one to the next lower page, or to page 0 once they run out.
+pub fn map_pages(
+    entries: &mut [u32],
+    slot: u32,
+    from: VirtPage,
+    to: VirtPage,
+    first: PhysPage,
+    write: bool,
+    execute: bool,
+    user: bool,
+)
+    ensures { λ _. ⌜ now (entries .exit) ≡ pagesMapped (now (entries .entry)) slot (from .0) (to .0) (first .0) write execute user ⌝ }
 {
     let base = 1024 * (slot as usize);
-    let from = section.first_page as usize;
-    let past = slices::minus(section.last_page as usize + 1, base);
+    let start = from.0 as usize;
+    let past = slices::minus(to.0 as usize + 1, base);
     let end = slices::least(past, entries.len());
-    let mut i = slices::minus(from, base);
+    let mut i = slices::minus(start, base);
     while i < end {
-        let page = slices::minus(first.0 as usize, base + i - from) as u32;
-        entries[i] = page_entry(PhysPage(page), section.writable, section.executable, user);
+        let page = slices::minus(first.0 as usize, base + i - start) as u32;
+        entries[i] = page_entry(PhysPage(page), write, execute, user);
         i += 1;
-    }
-}
-
-// Writes one entry; past the table's end nothing changes.
-pub fn map_page(entries: &mut [u32], index: u32, entry: u32)
-    ensures { λ _. ⌜ now (entries .exit) ≡ set (now (entries .entry)) index entry ⌝ }
-{
-    let at = index as usize;
-    if at < entries.len() {
-        entries[at] = entry;
     }
 }
 
@@ -92,5 +91,15 @@ pub fn point_to_leaves(entries: &mut [u32], marks: &[u8], first: PhysPage)
         entries[m] = pointer_or(marked, PhysPage(page), entries[m]);
         pointed += flag(marked, 1) as usize;
         m += 1;
+    }
+}
+
+// Points the last entry of a root table, which covers the kernel's 4 MiB, to the kernel's leaf table. A table of fewer than
+// 1,024 entries has none.
+pub fn point_to_kernel(entries: &mut [u32], leaf: PhysPage)
+    ensures { λ _. ⌜ now (entries .exit) ≡ set (now (entries .entry)) 1023 (pointerEntry (leaf .0 % 0x40_0000)) ⌝ }
+{
+    if 1023 < entries.len() {
+        entries[1023] = pointer_entry(leaf);
     }
 }

@@ -54,7 +54,7 @@ loop-again c =
     (omega arith, one-more _ _ _ (loop .loop .inv .1) (read .page-count) (loop .before .read-process .ensures .first-section), omega (arith, read .page-count-le))
 
 returns : tie.Need-returns Inv-loop μ-loop
-returns c = all-pages _ _ _ (c .before .loop .inv .1) (c .before .loop .inv .2) (omega (arith, c .before .before .read-process .ensures .sections-of))
+returns c = (all-pages _ _ _ (c .before .loop .inv .1) (omega (arith, c .before .before .read-process .ensures .sections-of)), omega arith)
 
 pub process-pages-spec : {M : Type 1} → statement M
 process-pages-spec =

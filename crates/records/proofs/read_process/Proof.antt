@@ -35,7 +35,15 @@ word-requires-4 c κs = search needs
 
 returns : tie.Need-returns
 unfolding entryPoint firstSection sectionsOf kind processAt
-returns c = record { entry-point = cc; first-section = cc; sections-of = cc; kind-is = cc }
+returns c =
+    let words = c .before .before .before in
+    let m = words .before .minus .ensures in
+    record {
+      entry-point = rw m at (words .word .ensures);
+      first-section = rw m at (c .before .before .word2 .ensures);
+      sections-of = rw m at (c .before .word3 .ensures);
+      kind-is = rw m at (c .word4 .ensures);
+    }
 
 pub read-process-spec : {M : Type 1} → statement M
 read-process-spec =

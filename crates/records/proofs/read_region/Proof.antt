@@ -56,7 +56,13 @@ add-t16 c = search needs
 
 returns : tie.Need-returns
 unfolding regionStart regionPages regionEnd regionAt regionsAt sectionsAt
-returns c = record { start-is = cc; pages-are = cc; end-is = cc }
+returns c =
+    let counts = c .before .before in
+    let p = counts .before .process-count .ensures in
+    let s = counts .section-count .ensures in
+    let start-is = rw (p, s) at (c .before .word .ensures) in
+    let pages-are = rw (p, s) at (c .word2 .ensures) in
+    record { start-is = start-is; pages-are = pages-are; end-is = rw (start-is, pages-are) }
 
 pub read-region-spec : {M : Type 1} → statement M
 read-region-spec =

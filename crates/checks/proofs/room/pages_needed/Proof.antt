@@ -22,11 +22,11 @@ process-count-requires c κs = search needs
 loop-holds : tie.Need-loop-holds Inv-loop μ-loop
 loop-holds c = (search needs, sym (sum-none _), search needs)
 
-add-section-pages : tie.Need-add-section-pages Inv-loop μ-loop
-add-section-pages c = search needs
+add-process-pages : tie.Need-add-process-pages Inv-loop μ-loop
+add-process-pages c = search needs
 
-section-pages-requires : tie.Need-section-pages-requires Inv-loop μ-loop
-section-pages-requires c κs = search needs
+process-pages-requires : tie.Need-process-pages-requires Inv-loop μ-loop
+process-pages-requires c κs = search needs
 
 add-table-count : tie.Need-add-table-count Inv-loop μ-loop
 add-table-count c = search needs
@@ -83,8 +83,8 @@ pages-needed-spec =
     μ-loop
     process-count-requires
     loop-holds
-    add-section-pages
-    section-pages-requires
+    add-process-pages
+    process-pages-requires
     add-table-count
     table-count-requires
     cast-sum

@@ -1,4 +1,4 @@
-use Rattle.loader.proofs.LeafEntries.{tracker-room, kernel-is}
+use Rattle.loader.proofs.LeafEntries.{tracker-room, tracker-some, kernel-is}
 use native.Mathlib.Omega.{arith}
 use borrow.Author.Needs.{needs}
 use Rattle.loader.proofs.leaf_entries.kernel_entries.Statement.{statement}
@@ -31,24 +31,28 @@ page-at-requires-3 c κs = (omega arith, omega (arith, tracker-room (c .before .
 map-sections-requires : tie.Need-map-sections-requires
 map-sections-requires c κs = search needs
 
-page-entry-requires : tie.Need-page-entry-requires
-page-entry-requires c κs = search needs
+map-pages-requires : tie.Need-map-pages-requires
+map-pages-requires c κs = search needs
 
-map-page-requires : tie.Need-map-page-requires
-map-page-requires c κs = search needs
+sub-t14 : tie.Need-sub-t14
+sub-t14 c =
+    let sections = c .before .before .before .before .before .before in
+    let counts = sections .before .before .before .before .before in
+    let fits = counts .before .before .before .before .pre .0 in
+    omega (arith, counts .tracker-pages .ensures, tracker-some fits)
 
-map-tracker-requires : tie.Need-map-tracker-requires
-map-tracker-requires c κs =
-    let sections = c .before .before .before .before .before .before .before .before in
-    let first = sections .before .before .before .before in
-    let fits = first .before .before .before .before .before .pre .0 in
-    (omega (arith, tracker-room fits), omega (arith, fits .end, tracker-room fits))
+add-t15 : tie.Need-add-t15
+add-t15 c =
+    let sections = c .before .before .before .before .before .before in
+    let counts = sections .before .before .before .before .before in
+    let fits = counts .before .before .before .before .pre .0 in
+    omega (arith, counts .tracker-pages .ensures, tracker-room fits)
 
-page-entry-requires-2 : tie.Need-page-entry-requires-2
-page-entry-requires-2 c κs = search needs
+map-pages-requires-2 : tie.Need-map-pages-requires-2
+map-pages-requires-2 c κs = search needs
 
-map-page-requires-2 : tie.Need-map-page-requires-2
-map-page-requires-2 c κs = search needs
+map-pages-requires-3 : tie.Need-map-pages-requires-3
+map-pages-requires-3 c κs = search needs
 
 same-length : tie.Need-same-length
 same-length c = search needs
@@ -56,19 +60,16 @@ same-length c = search needs
 returns : tie.Need-returns
 returns c =
     let list = c .before .before in
-    let tracker = list .before .before .before .before .before in
+    let tracker = list .before .before .before .before in
     let copy = tracker .before .before .before .before in
-    let sections = copy .before .before .before .before .before in
+    let sections = copy .before .before .before .before in
     let places = sections .before .before in
     let first = places .before .before in
     let counts = first .before in
-    kernel-is (counts .before .before .before .before .pre .0) _ _ _ _ _ _ _ _ _ _ _
+    kernel-is (counts .before .before .before .before .pre .0) _ _ _ _ _ _ _ _ _
     (counts .before .tracker-place .ensures) (counts .tracker-pages .ensures)
     (first .page-at .ensures) (places .before .page-at2 .ensures) (places .page-at3 .ensures)
-    (sections .map-sections .ensures)
-    (copy .before .page-entry .ensures) (copy .map-page .ensures)
-    (tracker .map-tracker .ensures)
-    (list .before .page-entry2 .ensures) (list .map-page2 .ensures)
+    (sections .map-sections .ensures) (copy .map-pages .ensures) (tracker .map-pages2 .ensures) (list .map-pages3 .ensures)
 
 pub kernel-entries-spec : {M : Type 1} → statement M
 kernel-entries-spec =
@@ -83,10 +84,10 @@ kernel-entries-spec =
     add-page-at-3
     page-at-requires-3
     map-sections-requires
-    page-entry-requires
-    map-page-requires
-    map-tracker-requires
-    page-entry-requires-2
-    map-page-requires-2
+    map-pages-requires
+    sub-t14
+    add-t15
+    map-pages-requires-2
+    map-pages-requires-3
     same-length
     returns)

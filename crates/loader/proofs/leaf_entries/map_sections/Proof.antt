@@ -42,8 +42,8 @@ read-section-requires c κs = search needs
 page-at-requires : tie.Need-page-at-requires Inv-loop μ-loop
 page-at-requires c κs = search needs
 
-map-section-requires : tie.Need-map-section-requires Inv-loop μ-loop
-map-section-requires c κs = search needs
+map-pages-requires : tie.Need-map-pages-requires Inv-loop μ-loop
+map-pages-requires c κs = search needs
 
 add-place : tie.Need-add-place Inv-loop μ-loop
 add-place c =
@@ -69,7 +69,7 @@ loop-again c =
       omega arith,
       omega arith,
       mapped-more (loop .loop .inv .2) (pre .0) (pre .1) (pre .2) (process .first-section) (process .sections-of) (read .before .loop-test .taken)
-          (read .read-section .ensures) (call .before .page-at .ensures) (call .map-section .ensures),
+          (read .read-section .ensures) (call .before .page-at .ensures) (call .map-pages .ensures),
     )
 
 same-length : tie.Need-same-length Inv-loop μ-loop
@@ -92,7 +92,7 @@ map-sections-spec =
     add-read-section
     read-section-requires
     page-at-requires
-    map-section-requires
+    map-pages-requires
     add-place
     add-j
     loop-less

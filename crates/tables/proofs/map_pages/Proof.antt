@@ -2,25 +2,25 @@ use mathlib.Core.Path.{_∙_}
 use Prim.Native.Nat.{_+_, _-_, _*_, _%_}
 use borrow.Author.Count.{falls}
 use Rattle.rules.specs.Entries.{pageEntry}
-use Rattle.tables.specs.Filled.{sectionMapped}
+use Rattle.tables.specs.Filled.{pagesMapped}
 use Rattle.tables.proofs.Filling.{Filling, filling-none, filling-more, filling-is}
 use borrow.Author.Needs.{needs}
-use Rattle.tables.proofs.map_section.Statement.{statement}
-use Rattle.tables.proofs.map_section.Tie as tie
+use Rattle.tables.proofs.map_pages.Statement.{statement}
+use Rattle.tables.proofs.map_pages.Tie as tie
 
 -- so far the pages below index i are mapped
 abbrev Inv-loop : tie.InvT-loop
-Inv-loop entries₀ slot section first user base from past end i₀ entries i =
-    Filling (λ k. pageEntry ((first .0 - (1024 * slot + k - section .«first_page»)) % 0x40_0000) (section .writable) (section .executable) user) i₀ end i entries₀ entries
+Inv-loop entries₀ slot first write execute user base start past end i₀ entries i =
+    Filling (λ k. pageEntry ((first .0 - (1024 * slot + k - start)) % 0x40_0000) write execute user) i₀ end i entries₀ entries
 
 abbrev μ-loop : tie.MeasureT-loop
-μ-loop entries₀ slot section first user base from past end i₀ entries i = end - i
+μ-loop entries₀ slot first write execute user base start past end i₀ entries i = end - i
 
 mul-base : tie.Need-mul-base Inv-loop μ-loop
 mul-base c = search needs
 
-cast-from : tie.Need-cast-from Inv-loop μ-loop
-cast-from c = search needs
+cast-start : tie.Need-cast-start Inv-loop μ-loop
+cast-start c = search needs
 
 cast-minus : tie.Need-cast-minus Inv-loop μ-loop
 cast-minus c = search needs
@@ -78,19 +78,19 @@ same-length : tie.Need-same-length Inv-loop μ-loop
 same-length c = search needs
 
 returns : tie.Need-returns Inv-loop μ-loop
-unfolding sectionMapped
+unfolding pagesMapped
 returns c =
     let l = c .before in
     filling-is _ _ _ (l .loop .inv) (c .loop-test .left) (l .before .minus2 .ensures) (l .before .before .least .ensures) (l .before .before .before .minus .ensures)
 
-pub map-section-spec : {M : Type 1} → statement M
-map-section-spec =
+pub map-pages-spec : {M : Type 1} → statement M
+map-pages-spec =
     tie.close
     (tie.spec
     Inv-loop
     μ-loop
     mul-base
-    cast-from
+    cast-start
     cast-minus
     add-minus
     minus-requires
