@@ -3,7 +3,7 @@ use crate::both;
 ghost use mathlib.Core.Bool.{not, _&&_};
 ghost use mathlib.Core.List.{[], _∷_};
 ghost use mathlib.Core.Path.{_≡_};
-ghost use Prim.Native.Nat.{_+_, _*_, _<_, _≤_, _^_};
+ghost use Prim.Native.Nat.{_+_, _*_, _<_, _≤_};
 ghost use lib.Dec.{eqb, leb, ltb};
 ghost use Rattle.notation.specs.Choice.{any};
 ghost use Rattle.rules.specs.Block.{address, executable, sectionEnd};

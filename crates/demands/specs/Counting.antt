@@ -1,22 +1,20 @@
 -- The pages of the order, counted.
-use mathlib.Core.Path.{_≡_, refl, sym, ap, _∙_}
-use mathlib.Core.List.{List, [], _∷_, _++_}
-use mathlib.Core.Option.{Option, none, some}
+use mathlib.Core.Path.{_≡_, refl, _∙_}
+use mathlib.Core.List.{List}
 use mathlib.Core.Bool.{Bool, true, false}
-use Prim.Native.Nat.{ℕ, zero, suc, _+_, _-_, _*_, _/_, _≤_, _<_}
+use Prim.Native.Nat.{ℕ, _+_, _-_, _/_, _≤_}
 use native.Mathlib.Omega.{arith}
 use lib.ListN.{length, take, length-append}
 use lib.Dec.{eqb}
-use borrow.Author.Tests.{eq-eqb, ne-eqb}
+use borrow.Author.Tests.{ne-eqb}
 use Rattle.notation.specs.Choice.{choose}
 use Rattle.notation.specs.Lists.{tab, gather, lookup, count, sum}
 use Rattle.rules.specs.Block.{processCount, ioPages}
-use Rattle.rules.specs.Space.{Data, sectionPage, trackerPage, processList, blockCopy}
-use Rattle.rules.specs.Order.{Use, top, holds, rootTable, leafTable, sectionUses, hasLeaf, tableUses, order, uses, pagesFor, trackerPages, pagesNeeded, freePages, pagesOf, useOf, dataOwner, useOwner, owner}
+use Rattle.rules.specs.Order.{Use, top, sectionUses, hasLeaf, tableUses, order, uses, pagesFor, trackerPages, pagesNeeded, freePages, pagesOf, useOf, dataOwner, useOwner, owner}
 use Rattle.rules.specs.Contents.{tracker}
 use Rattle.laws.specs.Choice.{by-choose, choose-yes, choose-no}
 use Rattle.laws.specs.Lists.{Every, every-map, every-append, every-tab, every-gather, tab-length}
-use Rattle.laws.specs.Counts.{one, sum-same, sum-reverse, count-none, count-tab, count-classes, count-lookups}
+use Rattle.laws.specs.Counts.{one, sum-reverse, count-none, count-tab, count-classes, count-lookups}
 use Rattle.demands.specs.Loaded.{tracker-ram}
 
 -- HOW MANY: the tracker's pages and the rest, which depends on the block alone

@@ -6,8 +6,6 @@ use mathlib.Core.List.{List}
 use Prim.Native.Nat.{ℕ, _≤_}
 use lib.ListN.{length}
 use borrow.Author.Tests.{ne-eqb}
-use Rattle.types.specs.declared.Verdict.{Verdict}
-use Rattle.types.specs.declared.Answer.{Answer}
 use Rattle.rules.specs.Refusals.{checks, verdict}
 use Rattle.rules.specs.Load.{boots, answerTo, answer, ramAfter}
 use Rattle.laws.specs.Choice.{choose-no}

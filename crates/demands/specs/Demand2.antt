@@ -1,32 +1,30 @@
 -- DEMAND 2: "After success, walking each process's tables by the Sv32 rules shows exactly the sections 01 gives it, zero around them,
 -- those rights, and nothing else but the kernel's own mapping and the stack reserve. A RAM page reached from a user section has one
 -- owner and one virtual page. Owners' pages, counted by 01's order, and free pages add up to RAM."
-use mathlib.Core.Path.{_≡_, refl, sym, ap, _∙_}
-use mathlib.Core.Logic.{_≢_, _⊎_, inl, inr}
-use mathlib.Core.List.{List, [], _∷_, _++_}
-use mathlib.Core.Option.{Option, none, some}
-use mathlib.Core.Bool.{Bool, true, false}
-use Prim.Native.Nat.{ℕ, zero, suc, _+_, _-_, _*_, _/_, _%_, _≤_, _<_}
+use mathlib.Core.Path.{_≡_, sym, ap, _∙_}
+use mathlib.Core.Logic.{_⊎_, inl, inr}
+use mathlib.Core.List.{List}
+use mathlib.Core.Bool.{true}
+use Prim.Native.Nat.{ℕ, _+_, _-_, _*_, _/_, _≤_, _<_}
 use native.Mathlib.Omega.{arith}
 use lib.ListN.{length, getD, take}
 use lib.Dec.{eqb}
 use borrow.Author.Tests.{le-leb}
-use Rattle.notation.specs.Lists.{tab, gather, count, sum, lookup}
+use Rattle.notation.specs.Lists.{count, sum}
 use Rattle.types.specs.declared.PhysPage.{PhysPage}
 use Rattle.types.specs.declared.Rights.{Rights}
-use Rattle.types.specs.declared.Entry.{Entry}
-use Rattle.types.specs.declared.Entry.the-variants.{Absent, Reserved, Pointer, Page}
+use Rattle.types.specs.declared.Entry.the-variants.{Page}
 use Rattle.types.specs.declared.Answer.{Answer}
 use Rattle.rules.specs.Block.{processCount}
 use Rattle.rules.specs.Space.{Data, sectionPage, Mapping, unmapped, stack, maps, mappingAt}
-use Rattle.rules.specs.Order.{Use, top, holds, rootTable, order, uses, trackerPages, pagesNeeded, freePages, pagesOf, useOf, ramPage, useOwner, dataOwner, owner}
+use Rattle.rules.specs.Order.{Use, holds, order, uses, trackerPages, pagesNeeded, freePages, pagesOf, ramPage, useOwner, dataOwner, owner}
 use Rattle.rules.specs.Contents.{tracker}
 use Rattle.rules.specs.Load.{physPage, satpWord, pageByte, loaded, boots, ramAfter, answerTo, answer}
 use Rattle.rules.specs.Reader.{insideRam, walk}
 use Rattle.rules.specs.Sees.{sees, seenFrom, rootOf, processSees}
 use Rattle.laws.specs.Choice.{and-both, choose-yes}
 use Rattle.laws.specs.Lists.{Occurs}
-use Rattle.demands.specs.Boot.{Room, Boot, boot}
+use Rattle.demands.specs.Boot.{Boot, boot}
 use Rattle.placement.specs.Uses.{InRam, in-ram, one-use, use-free, use-top}
 use Rattle.demands.specs.Mappings.{AtHome, at-home, homeOf, Own, own}
 use Rattle.demands.specs.Entries.{readable}

@@ -2,32 +2,30 @@
 -- neither 1 nor 11), and every process sees the same at every 32-bit address, but for the tracker and the satp words."
 use mathlib.Core.Path.{_≡_, refl, sym, ap, _∙_}
 use mathlib.Core.Logic.{_≢_}
-use mathlib.Core.List.{List, [], _∷_}
+use mathlib.Core.List.{List}
 use mathlib.Core.Bool.{Bool, true, false, _&&_}
 use Prim.Native.Nat.{ℕ, zero, suc, _+_, _-_, _*_, _/_, _%_, _≤_, _<_}
 use native.Mathlib.Decide.{ℕ-discrete}
 use native.Mathlib.Omega.{arith}
-use lib.ListN.{length, getD}
+use lib.ListN.{length}
 use lib.Dec.{eqb, ltb}
 use borrow.Author.Tests.{eqb-true, eq-eqb, le-ltb, lt-ltb, le-leb, ltb-false}
 use Rattle.notation.specs.Choice.{choose}
 use Rattle.notation.specs.Words.{byteOf}
 use Rattle.types.specs.declared.Verdict.{Verdict}
 use Rattle.types.specs.declared.Answer.{Answer}
-use Rattle.types.specs.declared.View.{View}
-use Rattle.rules.specs.Block.{processCount, entryPoint, firstPage, sectionRecord}
-use Rattle.rules.specs.Space.{Data, sectionPage, trackerPage, processList, blockCopy, Mapping, unmapped, stack, maps, inTracker, kernelPage, mappingAt}
-use Rattle.rules.specs.Order.{order, uses, pagesFor, trackerPages, pagesNeeded}
+use Rattle.rules.specs.Block.{processCount}
+use Rattle.rules.specs.Space.{Data, Mapping, unmapped, stack, maps, inTracker, kernelPage, mappingAt}
+use Rattle.rules.specs.Order.{order, trackerPages, pagesNeeded}
 use Rattle.rules.specs.Refusals.{Check, whole, records, checks, verdict, regionUnfit, ramTooSmall}
 use Rattle.rules.specs.Contents.{tracker, processWord, processListByte}
-use Rattle.rules.specs.Load.{satpWord, boots, answerTo, answer}
+use Rattle.rules.specs.Load.{boots, answerTo, answer}
 use Rattle.rules.specs.Sees.{byteAt, viewOf, sees, processSees}
 use Rattle.rules.specs.Compare.{Compared, everything, rightsOnly, nothing, atSatp, compared, withoutByte, Agree}
 use Rattle.laws.specs.Choice.{by-test, by-choose, choose-yes, and-both}
 use Rattle.laws.specs.Lists.{Every, every-at, every-map}
 use Rattle.demands.specs.Refusal.{Passes, Refuses, FirstCause, not-both}
 use Rattle.demands.specs.Demand1.{boots-where-no-cause-holds, refusal-is-first-cause}
-use Rattle.demands.specs.Boot.{Boot, boot}
 use Rattle.demands.specs.Counting.{needed-larger, tracker-pages-le, needed-less-tracker}
 use Rattle.demands.specs.Mappings.{by-mapping, in-tracker-first, in-tracker-last}
 use Rattle.demands.specs.Loaded.{tracker-pages}

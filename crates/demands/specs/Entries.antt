@@ -1,15 +1,11 @@
 -- An entry reads as it was written.
-use mathlib.Core.Path.{_≡_, refl, sym, ap, _∙_}
-use mathlib.Core.Bool.{Bool, true, false}
+use mathlib.Core.Path.{_≡_, refl}
+use mathlib.Core.Bool.{Bool, true}
 use Prim.Native.Nat.{ℕ, _+_, _*_, _/_, _%_, _≤_, _<_}
 use native.Mathlib.Omega.{arith}
-use lib.Dec.{eqb}
 use borrow.Author.Tests.{eq-eqb, ne-eqb}
 use Rattle.notation.specs.Choice.{choose}
-use Rattle.notation.specs.Words.{bit}
-use Rattle.types.specs.declared.PhysPage.{PhysPage}
 use Rattle.types.specs.declared.Rights.{Rights}
-use Rattle.types.specs.declared.Entry.{Entry}
 use Rattle.types.specs.declared.Entry.the-variants.{Absent, Reserved, Pointer, Page}
 use Rattle.rules.specs.Entries.{absentEntry, reservedEntry, pointerEntry, pageEntry, rightsIn, decode}
 use Rattle.laws.specs.Counts.{one, one-le, choose-times}

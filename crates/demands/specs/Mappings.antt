@@ -1,19 +1,18 @@
 -- What stands at a virtual page, by cases: one rule for every statement about it.
-use mathlib.Core.Path.{_≡_, refl, sym, ap, _∙_}
+use mathlib.Core.Path.{_≡_, refl, sym}
 use mathlib.Core.Logic.{_≢_}
 use mathlib.Core.List.{List}
-use mathlib.Core.Option.{Option, none, some}
-use mathlib.Core.Bool.{Bool, true, false, _&&_}
-use Prim.Native.Nat.{ℕ, zero, suc, _+_, _-_, _*_, _/_, _≤_, _<_}
+use mathlib.Core.Bool.{Bool, true, false}
+use Prim.Native.Nat.{ℕ, _+_, _-_, _/_, _≤_, _<_}
 use native.Mathlib.Omega.{arith}
-use lib.Dec.{leb, ltb, eqb}
+use lib.Dec.{leb, eqb}
 use borrow.Author.Tests.{eqb-true, eqb-false, eq-eqb, ne-eqb, leb-true, ltb-true, le-leb}
 use Rattle.notation.specs.Choice.{choose}
-use Rattle.notation.specs.Lists.{findLast, exists}
+use Rattle.notation.specs.Lists.{exists}
 use Rattle.rules.specs.Block.{processCount, sectionsOf, sectionRecord, firstPage, lastPage, pageCount, writable, executable}
 use Rattle.rules.specs.Space.{Data, sectionPage, trackerPage, processList, blockCopy, Mapping, unmapped, stack, maps, hasPage, sectionMapping, sectionAtPage, inTracker, kernelPage, inStack, userPage, mappingAt}
-use Rattle.rules.specs.Order.{Use, holds, order, inRootSlot, hasLeaf}
-use Rattle.laws.specs.Choice.{by-test, by-choose, choose-yes, choose-no, and-left, and-right, and-both, choose-or}
+use Rattle.rules.specs.Order.{holds, order, inRootSlot, hasLeaf}
+use Rattle.laws.specs.Choice.{by-test, by-choose, and-left, and-right, and-both, choose-or}
 use Rattle.laws.specs.Lists.{Occurs, by-find-last, exists-hit}
 use Rattle.placement.specs.Uses.{order-section, order-tracker, order-process-list, order-block-copy}
 

@@ -1,8 +1,8 @@
 -- The first refusal of a list of checks, and what is known of the others.
-use mathlib.Core.Path.{_≡_, refl, sym, ap, _∙_}
+use mathlib.Core.Path.{_≡_, refl}
 use mathlib.Core.Logic.{_≢_, _⊎_, inl, inr, _↔_}
 use mathlib.Core.List.{List, [], _∷_}
-use mathlib.Core.Option.{Option, none, some}
+use mathlib.Core.Option.{some}
 use mathlib.Core.Bool.{Bool, true, false}
 use Prim.Native.Nat.{ℕ, zero, suc, _+_, _≤_, _<_}
 use native.Mathlib.Nat.{not-suc-le-zero, le-of-suc-le-suc}
@@ -13,7 +13,7 @@ use borrow.Author.Tests.{eqb-true, eqb-false}
 use Rattle.notation.specs.Choice.{choose}
 use Rattle.notation.specs.Lists.{lookup}
 use Rattle.types.specs.declared.Verdict.{Verdict}
-use Rattle.rules.specs.Refusals.{Check, whole, records, refused, accepted, firstRecord, firstRefusal, sectionRefusal, checks, verdict}
+use Rattle.rules.specs.Refusals.{Check, whole, records, refused, accepted, firstRecord, firstRefusal, sectionRefusal, checks}
 use Rattle.laws.specs.Choice.{by-choose}
 use Rattle.laws.specs.Lists.{Every, every-at}
 

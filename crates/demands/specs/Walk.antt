@@ -1,33 +1,29 @@
 -- The walk of loaded RAM is what the rules give. All that is known of RAM here is its length, its place, and the bytes of each use.
-use mathlib.Core.Path.{_≡_, refl, sym, ap, _∙_}
-use mathlib.Core.Logic.{_≢_}
+use mathlib.Core.Path.{_≡_, refl, ap, _∙_}
 use mathlib.Core.List.{List}
-use mathlib.Core.Option.{Option, none, some}
-use mathlib.Core.Bool.{Bool, true, false, _&&_}
-use Prim.Native.Nat.{ℕ, zero, suc, _+_, _-_, _*_, _/_, _%_, _≤_, _<_}
+use mathlib.Core.Option.{some}
+use mathlib.Core.Bool.{Bool, true, false}
+use Prim.Native.Nat.{ℕ, suc, _+_, _-_, _*_, _/_, _%_, _≤_, _<_}
 use native.Mathlib.Nat.{div-div-eq-div-mul}
 use native.Mathlib.Omega.{arith}
 use lib.ListN.{length, getD}
-use lib.Dec.{leb, ltb, eqb}
+use lib.Dec.{eqb}
 use borrow.Author.Tests.{eqb-true, eqb-false, le-leb, lt-ltb}
 use Rattle.notation.specs.Choice.{choose}
-use Rattle.notation.specs.Words.{word, byteOf}
-use Rattle.types.specs.declared.PhysPage.{PhysPage}
-use Rattle.types.specs.declared.Rights.{Rights}
+use Rattle.notation.specs.Words.{byteOf}
 use Rattle.types.specs.declared.Entry.{Entry}
-use Rattle.types.specs.declared.Entry.the-variants.{Absent, Reserved, Pointer, Page}
-use Rattle.types.specs.declared.View.{View}
+use Rattle.types.specs.declared.Entry.the-variants.{Absent, Reserved, Page}
 use Rattle.types.specs.declared.View.the-variants as S
-use Rattle.rules.specs.Block.{processCount, sectionRecord, address, size, sectionEnd, flashOffset, noCopy, firstPage}
+use Rattle.rules.specs.Block.{processCount, sectionRecord, address, size, sectionEnd, firstPage}
 use Rattle.rules.specs.Space.{Data, sectionPage, trackerPage, processList, blockCopy, Mapping, unmapped, stack, maps, mappingAt}
-use Rattle.rules.specs.Order.{Use, top, holds, rootTable, leafTable, hasLeaf, order, uses, pagesNeeded, trackerPages, ramPage}
+use Rattle.rules.specs.Order.{Use, holds, rootTable, leafTable, hasLeaf, order, uses, trackerPages, ramPage}
 use Rattle.rules.specs.Tables.{rootEntry, entryFor, leafEntry}
 use Rattle.rules.specs.Entries.{decode}
 use Rattle.rules.specs.Contents.{sectionPageByte, tracker, dataByte}
 use Rattle.rules.specs.Load.{physPage, satpWord, tableByte, pageByte}
 use Rattle.rules.specs.Reader.{insideRam, tableEntry, pageAnswer, leafAnswer, rootAnswer, walk}
 use Rattle.rules.specs.Sees.{sectionByte, byteAt, viewOf, inRam, shown}
-use Rattle.laws.specs.Choice.{by-test, by-choose, choose-lt, choose-yes, and-both}
+use Rattle.laws.specs.Choice.{by-choose, choose-lt, choose-yes, and-both}
 use Rattle.laws.specs.Lists.{Occurs}
 use Rattle.laws.specs.Numbers.{leb-shift}
 use Rattle.laws.specs.Words.{word-of-bytes}

@@ -9,11 +9,11 @@ use native.Mathlib.Nat.{not-suc-le-zero, le-of-suc-le-suc, zero-add, suc-add}
 use native.Mathlib.Numerals.{add-one}
 use native.Mathlib.Decide.{decLt, ℕ-discrete}
 use native.Mathlib.Omega.{arith}
-use lib.ListN.{length, getD, take, length-append}
+use lib.ListN.{length, getD, take}
 use lib.Seq.{ext-getD, getD-append-add}
 use Rattle.notation.specs.Choice.{choose}
 use Rattle.notation.specs.Lists.{tab, gather, lookup, countBefore, findLast, exists}
-use Rattle.laws.specs.Choice.{by-choose, choose-yes, choose-no}
+use Rattle.laws.specs.Choice.{by-choose}
 
 -- none is not some
 pub none-some : {A : Type 0} {x : A} {B : Type 0} → none ≡ some x → B

@@ -9,7 +9,6 @@ use lib.ListN.{length}
 use lib.Dec.{eqb}
 use borrow.Author.Tests.{ltb-false, eq-eqb, ne-eqb, lt-leb, le-leb}
 use Rattle.types.specs.declared.Verdict.{Verdict}
-use Rattle.types.specs.declared.Answer.{Answer}
 use Rattle.rules.specs.Block.{processCount}
 use Rattle.rules.specs.Order.{pagesNeeded, freePages, trackerPages}
 use Rattle.rules.specs.Refusals.{checks, verdict, ramUnfit, outside, countsOutOfBounds}

@@ -3,7 +3,7 @@ use mathlib.Core.Path.{_≡_, refl, sym, _∙_}
 use mathlib.Core.Bool.{Bool, true, false, _&&_}
 use mathlib.Core.List.{List}
 use mathlib.Core.Option.{some}
-use Prim.Native.Nat.{ℕ, zero, suc, _+_, _-_, _*_, _/_, _%_, _≤_, _<_}
+use Prim.Native.Nat.{ℕ, _+_, _-_, _*_, _/_, _%_, _≤_, _<_}
 use native.Mathlib.Nat.{mod-eq-of-lt}
 use native.Mathlib.Decide.{decLt, ℕ-discrete}
 use native.Mathlib.Omega.{arith}
@@ -11,12 +11,12 @@ use lib.Dec.{leb, eqb}
 use lib.ListN.{length, getD}
 use borrow.Author.Tests.{eq-eqb, ne-eqb, eqb-true, leb-true, ltb-true, le-leb, lt-leb, lt-ltb, le-ltb}
 use Rattle.notation.specs.Choice.{choose}
-use Rattle.notation.specs.Lists.{tab, sum, findLast}
+use Rattle.notation.specs.Lists.{tab, findLast}
 use Rattle.laws.specs.Choice.{choose-yes, choose-no, choose-map, and-left, and-right}
 use Rattle.laws.specs.Lists.{tab-length, tab-get, tab-same, find-last-none, find-last-next}
 use Rattle.records.specs.Read.{IsSection}
 use Rattle.records.specs.declared.Section.{Section}
-use Rattle.rules.specs.Block.{processCount, sectionsOf, sectionRecord, firstSection, firstPage, lastPage, pageCount, writable, executable, regionCount, ioPagesOf, ioPages}
+use Rattle.rules.specs.Block.{processCount, sectionsOf, sectionRecord, firstSection, firstPage, lastPage, pageCount, writable, executable}
 use Rattle.rules.specs.Space.{Data, sectionPage, trackerPage, processList, blockCopy, Mapping, stack, maps, hasPage, sectionMapping, sectionAtPage, inTracker, kernelPage, inStack, userPage, mappingAt}
 use Rattle.rules.specs.Order.{Use, holds, hasLeaf, pagesFor, trackerPages, uses, pagesNeeded}
 use Rattle.rules.specs.Entries.{absentEntry, reservedEntry, pageEntry}

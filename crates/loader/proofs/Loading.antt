@@ -1,20 +1,19 @@
 -- All pages, part by part.
 use mathlib.Core.Path.{_≡_, refl, sym, ap, _∙_}
 use mathlib.Core.List.{List, [], _∷_, _++_, append-assoc}
-use Prim.Native.Nat.{ℕ, _+_, _-_, _*_, _/_, _≤_, _<_}
+use Prim.Native.Nat.{ℕ, _+_, _-_, _*_, _/_, _≤_}
 use native.Mathlib.Omega.{arith}
 use lib.ListN.{length, getD, length-append}
-use borrow.Rule.Slice.PartMut.{putMid, midOf}
 use Rattle.notation.specs.Choice.{choose}
 use Rattle.notation.specs.Lists.{tab, gather}
 use Rattle.rules.specs.Block.{processCount}
 use Rattle.rules.specs.Space.{trackerPage, processList, blockCopy}
-use Rattle.rules.specs.Order.{Use, holds, sectionUses, tableUses, order, uses, trackerPages, pagesNeeded, freePages}
+use Rattle.rules.specs.Order.{Use, holds, tableUses, uses, trackerPages, pagesNeeded, freePages}
 use Rattle.rules.specs.Contents.{dataByte}
 use Rattle.rules.specs.Load.{pageByte, loaded}
 use Rattle.laws.specs.Lists.{tab-length}
-use Rattle.placement.specs.Places.{trackerPlace, sectionPlace, userPages, processPages, rootPlace, tablesBefore, section-uses-length, user-uses-length, tables-length, tables-before-none, order-count}
-use Rattle.writing.specs.Pages.{put, put-same}
+use Rattle.placement.specs.Places.{trackerPlace, sectionPlace, rootPlace, tablesBefore, section-uses-length, user-uses-length, tables-length, tables-before-none}
+use Rattle.writing.specs.Pages.{put}
 use Rattle.writing.specs.Uses.{writeUses, write-length, Wrote, wrote-none, wrote-more, wrote-page}
 use Rattle.writing.specs.Loaded.{content, belowTop, below-top-length, written-is-loaded, sectionContent, allSections, write-sections}
 use Rattle.loader.specs.Fits.{Fits}

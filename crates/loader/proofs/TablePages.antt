@@ -1,32 +1,32 @@
 -- Laws of the table pages.
 use mathlib.Core.Path.{_≡_, refl, sym, ap, _∙_}
 use mathlib.Core.Logic.{_≢_}
-use mathlib.Core.Bool.{Bool, true, false}
-use mathlib.Core.List.{List, [], _∷_, _++_}
+use mathlib.Core.Bool.{true, false}
+use mathlib.Core.List.{List, [], _++_}
 use Prim.Native.Nat.{ℕ, zero, suc, _+_, _-_, _*_, _/_, _%_, _≤_, _<_, min}
 use native.Mathlib.Nat.{mod-eq-of-lt}
 use native.Mathlib.Decide.{decLt, ℕ-discrete}
 use native.Mathlib.Numerals.{add-one}
 use native.Mathlib.Omega.{arith}
-use lib.ListN.{length, getD, set, length-set, replicate}
+use lib.ListN.{length, getD, set, replicate}
 use lib.Seq.{getD-set-same, getD-set-other}
-use lib.Dec.{eqb, ltb}
-use borrow.Author.Tests.{eq-eqb, ne-eqb, lt-ltb, le-ltb}
+use lib.Dec.{ltb}
+use borrow.Author.Tests.{eq-eqb, ne-eqb, lt-ltb}
 use borrow.Rule.Slice.PartMut.{putMid, midOf, mid-len}
 use Rattle.notation.specs.Choice.{choose}
 use Rattle.notation.specs.Lists.{tab, gather, sum}
 use Rattle.rules.specs.Block.{processCount}
-use Rattle.rules.specs.Order.{Use, rootTable, leafTable, hasLeaf, tableUses, uses, trackerPages, pagesNeeded, ramPage}
+use Rattle.rules.specs.Order.{Use, leafTable, hasLeaf, tableUses, uses, trackerPages, pagesNeeded, ramPage}
 use Rattle.rules.specs.Entries.{pointerEntry, absentEntry}
 use Rattle.rules.specs.Tables.{rootEntry, leafEntry}
 use Rattle.rules.specs.Load.{physPage, tableByte, pageByte}
-use Rattle.laws.specs.Choice.{by-test, by-choose, choose-yes, choose-no}
-use Rattle.laws.specs.Lists.{tab-length, tab-get, tab-same, tab-by}
+use Rattle.laws.specs.Choice.{by-test, choose-yes, choose-no}
+use Rattle.laws.specs.Lists.{tab-length, tab-get, tab-same}
 use Rattle.laws.specs.Counts.{one, one-yes, one-no, sum-same, sum-zero}
 use Rattle.slices.specs.Writes.{withWords}
 use Rattle.leaves.specs.Marks.{leafMarks}
 use Rattle.tables.specs.Filled.{marked, markedBelow, leavesPointed}
-use Rattle.placement.specs.Places.{leavesBelow, rootPlace, tableCount, tablesBefore, place-leaf, place-root, ram-page-at, order-count, tables-length, tables-before-none}
+use Rattle.placement.specs.Places.{leavesBelow, rootPlace, tableCount, tablesBefore, place-leaf, ram-page-at, order-count, tables-length, tables-before-none}
 use Rattle.writing.specs.Pages.{put, put-part, put-same}
 use Rattle.writing.specs.Uses.{writeUses, Wrote, wrote-none, wrote-more}
 use Rattle.writing.specs.Loaded.{content}

@@ -2,19 +2,19 @@
 use mathlib.Core.Path.{_≡_, refl, sym, _∙_}
 use mathlib.Core.List.{List, [], _∷_, _++_}
 use mathlib.Core.Option.{some}
-use Prim.Native.Nat.{ℕ, _+_, _-_, _*_, _/_, _≤_, _<_}
+use Prim.Native.Nat.{ℕ, _+_, _-_, _*_, _≤_, _<_}
 use native.Mathlib.Numerals.{add-one}
 use native.Mathlib.Decide.{decLt}
 use native.Mathlib.Omega.{arith}
-use lib.ListN.{length, getD, length-append, List·getD-append, List·getD-eq-default}
+use lib.ListN.{length, getD, length-append, List·getD-eq-default}
 use Rattle.notation.specs.Choice.{choose}
 use Rattle.notation.specs.Lists.{tab, gather, lookup}
 use Rattle.laws.specs.Choice.{by-choose}
 use Rattle.laws.specs.Lists.{Every, every-append, every-tab, every-gather, tab-length, tab-get, tab-by, tab-same, tab-next, append-get-right, lookup-some, lookup-left, lookup-right, lookup-outside, lookup-gather, every-at}
 use Rattle.laws.specs.Counts.{sum-le}
-use Rattle.rules.specs.Block.{processCount, regionCount, ioPagesOf, ioPages}
+use Rattle.rules.specs.Block.{processCount, ioPages}
 use Rattle.rules.specs.Space.{trackerPage, processList, blockCopy}
-use Rattle.rules.specs.Order.{Use, top, holds, sectionUses, hasLeaf, tableUses, order, uses, trackerPages, pagesFor, pagesNeeded, useOf, dataOwner, useOwner, owner}
+use Rattle.rules.specs.Order.{Use, top, holds, sectionUses, hasLeaf, tableUses, order, uses, trackerPages, pagesNeeded, useOf, dataOwner, useOwner, owner}
 use Rattle.rules.specs.Contents.{tracker, dataByte}
 use Rattle.rules.specs.Load.{pageByte}
 use Rattle.demands.specs.Loaded.{tracker-byte}

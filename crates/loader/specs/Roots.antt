@@ -4,7 +4,6 @@ use mathlib.Core.List.{List}
 use Prim.Native.Nat.{ℕ, _/_}
 use lib.Dec.{leb, eqb}
 use Rattle.notation.specs.Choice.{choose}
-use Rattle.types.specs.declared.PhysPage.{PhysPage}
 use Rattle.rules.specs.Block.{processCount}
 use Rattle.rules.specs.Order.{rootTable}
 use Rattle.rules.specs.Refusals.{verdict}

@@ -1,19 +1,19 @@
 -- The place of each use: how many uses stand before it, as sums over the block's records.
-use mathlib.Core.Path.{_≡_, refl, sym, ap, _∙_}
+use mathlib.Core.Path.{_≡_, refl, ap, _∙_}
 use mathlib.Core.List.{List, [], _∷_, _++_}
-use mathlib.Core.Bool.{Bool, true, false}
-use Prim.Native.Nat.{ℕ, zero, suc, _+_, _-_, _≤_, _<_}
+use mathlib.Core.Bool.{true, false}
+use Prim.Native.Nat.{ℕ, suc, _+_, _-_, _≤_, _<_}
 use native.Mathlib.Decide.{ℕ-discrete}
 use native.Mathlib.Omega.{arith}
 use lib.ListN.{length, length-append}
 use lib.Dec.{eqb}
-use borrow.Author.Tests.{eq-eqb, ne-eqb}
+use borrow.Author.Tests.{ne-eqb}
 use Rattle.notation.specs.Choice.{choose}
-use Rattle.notation.specs.Lists.{tab, gather, countBefore, sum}
+use Rattle.notation.specs.Lists.{tab, gather, sum}
 use Rattle.rules.specs.Block.{processCount, sectionsOf, sectionRecord, pageCount}
-use Rattle.rules.specs.Space.{Data, sectionPage, trackerPage, processList, blockCopy}
-use Rattle.rules.specs.Order.{Use, top, holds, rootTable, leafTable, sectionUses, hasLeaf, tableUses, order, uses, trackerPages, pagesNeeded, sameUse, ramPage}
-use Rattle.laws.specs.Choice.{by-choose, choose-yes, choose-no}
+use Rattle.rules.specs.Space.{sectionPage, trackerPage, processList, blockCopy}
+use Rattle.rules.specs.Order.{Use, top, holds, rootTable, leafTable, sectionUses, hasLeaf, tableUses, order, uses, trackerPages, sameUse, ramPage}
+use Rattle.laws.specs.Choice.{by-choose, choose-no}
 use Rattle.laws.specs.Lists.{every-tab, every-gather, Absent, FirstAt, first-at-cast, first-at-here, first-at-there, first-at-left, first-at-right, first-at-tab, first-at-gather, tab-length}
 use Rattle.laws.specs.Counts.{one, sum-none, sum-next, sum-same, gather-length, one-length}
 use Rattle.placement.specs.Uses.{same-use-refl, same-use-not}

@@ -1,17 +1,17 @@
 -- Each use that the rules name is in the order of pages, and stands in RAM where the order puts it.
 use mathlib.Core.Path.{_≡_, refl, sym, ap, _∙_}
-use mathlib.Core.List.{List, [], _∷_, _++_}
-use mathlib.Core.Option.{Option, none, some}
+use mathlib.Core.List.{List, _∷_, _++_}
+use mathlib.Core.Option.{none, some}
 use mathlib.Core.Bool.{Bool, true, false}
-use Prim.Native.Nat.{ℕ, zero, suc, _+_, _-_, _≤_, _<_}
+use Prim.Native.Nat.{ℕ, _+_, _-_, _≤_, _<_}
 use native.Mathlib.Decide.{ℕ-discrete}
 use native.Mathlib.Omega.{arith}
 use lib.ListN.{length}
 use Rattle.notation.specs.Choice.{choose}
-use Rattle.notation.specs.Lists.{tab, gather, lookup, countBefore}
+use Rattle.notation.specs.Lists.{tab, gather, countBefore}
 use Rattle.rules.specs.Block.{processCount, sectionsOf, sectionRecord, pageCount}
-use Rattle.rules.specs.Space.{Data, Data-discrete, sectionPage, trackerPage, processList, blockCopy}
-use Rattle.rules.specs.Order.{Use, Use-discrete, top, holds, rootTable, leafTable, sectionUses, hasLeaf, tableUses, order, uses, pagesNeeded, freePages, useOf, sameUse, ramPage, trackerPages}
+use Rattle.rules.specs.Space.{Data-discrete, sectionPage, trackerPage, processList, blockCopy}
+use Rattle.rules.specs.Order.{Use, Use-discrete, top, holds, rootTable, leafTable, sectionUses, hasLeaf, tableUses, order, uses, pagesNeeded, freePages, useOf, sameUse, ramPage}
 use Rattle.laws.specs.Choice.{by-test}
 use Rattle.laws.specs.Lists.{Occurs, occurs-here, occurs-there, occurs-left, occurs-right, occurs-tab, occurs-gather, First, count-before-finds, lookup-inside, lookup-outside, lookup-left, lookup-tab}
 

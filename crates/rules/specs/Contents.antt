@@ -1,5 +1,5 @@
 -- The bytes of every page of data. 01, "Pages, from the top down" (a section's bytes), and "Entries" (tracker and process list).
-use mathlib.Core.Bool.{Bool, _&&_}
+use mathlib.Core.Bool.{_&&_}
 use mathlib.Core.List.{List, _++_}
 use Prim.Native.Nat.{ℕ, zero, suc, _+_, _-_, _*_, _/_, _%_}
 use lib.ListN.{getD}

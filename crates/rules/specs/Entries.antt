@@ -17,7 +17,7 @@
 --   PPN       the physical page number
 --
 -- R, W and X all clear in a valid entry: a pointer to the next level's table. Valid clear and the whole word 22: reserved.
-use mathlib.Core.Bool.{Bool, true, false}
+use mathlib.Core.Bool.{Bool}
 use Prim.Native.Nat.{ℕ, _+_, _*_, _/_, _%_}
 use lib.Dec.{eqb}
 use Rattle.notation.specs.Choice.{choose}

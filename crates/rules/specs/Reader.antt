@@ -1,13 +1,12 @@
 -- 01, "Entries": the reader, which walks the tables by the Sv32 rules over any RAM `r`, any start, any physical page number of a root
 -- table, any 32-bit address. RAM is the addresses from start up to start + length r, as whole numbers.
-use mathlib.Core.Bool.{Bool, true, false, _&&_}
+use mathlib.Core.Bool.{Bool, _&&_}
 use mathlib.Core.List.{List}
 use Prim.Native.Nat.{ℕ, _+_, _-_, _*_, _/_, _%_}
 use lib.ListN.{length}
 use lib.Dec.{leb, eqb}
 use Rattle.notation.specs.Choice.{choose}
 use Rattle.notation.specs.Words.{word}
-use Rattle.types.specs.declared.PhysPage.{PhysPage}
 use Rattle.types.specs.declared.Rights.{Rights}
 use Rattle.types.specs.declared.Entry.{Entry}
 use Rattle.types.specs.declared.Entry.the-variants.{Absent, Reserved, Pointer, Page}

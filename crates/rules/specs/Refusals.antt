@@ -1,7 +1,7 @@
 -- 01, "When it says no": each refusal's cause, and the first in 01's order. Ends are whole-number sums; nothing wraps.
-use mathlib.Core.Bool.{Bool, true, false, not, _&&_}
+use mathlib.Core.Bool.{Bool, not, _&&_}
 use mathlib.Core.List.{List, [], _∷_}
-use mathlib.Core.Option.{Option, none, some}
+use mathlib.Core.Option.{none, some}
 use Prim.Native.Nat.{ℕ, zero, suc, _+_, _-_, _/_, _%_, min, max}
 use lib.ListN.{length}
 use lib.Dec.{leb, ltb, eqb}

@@ -5,8 +5,6 @@ use Prim.Native.Nat.{ℕ, _+_, _-_, _*_, _/_, _%_}
 use lib.ListN.{length, getD}
 use lib.Dec.{leb, ltb}
 use Rattle.notation.specs.Choice.{choose}
-use Rattle.types.specs.declared.PhysPage.{PhysPage}
-use Rattle.types.specs.declared.Rights.{Rights}
 use Rattle.types.specs.declared.Entry.{Entry}
 use Rattle.types.specs.declared.Entry.the-variants as E
 use Rattle.types.specs.declared.View.{View}

@@ -1,5 +1,4 @@
 -- 01, "Entries": the entries of every root and leaf table. `phys` gives the physical page number of a use.
-use mathlib.Core.Bool.{Bool}
 use mathlib.Core.List.{List}
 use Prim.Native.Nat.{ℕ, _+_, _*_}
 use lib.Dec.{eqb}

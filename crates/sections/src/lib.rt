@@ -2,7 +2,6 @@
 ghost use mathlib.Core.Path.{_≡_};
 ghost use Prim.Native.Nat.{_-_};
 ghost use lib.ListN.{length};
-ghost use Rattle.rules.specs.Block.{sectionRecord, pageCount};
 ghost use Rattle.rules.specs.Contents.{sectionPageByte};
 ghost use Rattle.rules.specs.Order.{sectionUses};
 ghost use Rattle.writing.specs.Pages.{put};

@@ -1,33 +1,26 @@
 -- The promises of one call and of two, from the theorems.
 use mathlib.Core.Path.{_≡_, refl, sym, ap, _∙_}
-use mathlib.Core.Logic.{_≢_}
-use mathlib.Core.Bool.{Bool, true, false, _&&_}
+use mathlib.Core.Bool.{true, _&&_}
 use mathlib.Core.List.{List}
-use Prim.Native.Nat.{ℕ, _-_, _/_, _≤_, _<_}
-use native.Mathlib.Omega.{arith}
+use Prim.Native.Nat.{ℕ, _-_, _≤_, _<_}
 use lib.ListN.{length}
-use lib.Dec.{eqb, leb}
+use lib.Dec.{eqb}
 use borrow.Author.Tests.{eq-eqb, eqb-true, le-leb}
 use Rattle.notation.specs.Choice.{choose}
 use Rattle.types.specs.declared.PhysPage.{PhysPage}
 use Rattle.types.specs.declared.Answer.{Answer}
-use Rattle.types.specs.declared.Verdict.{Verdict}
 use Rattle.types.specs.declared.View.{View}
-use Rattle.types.specs.declared.View.the-variants.{Absent}
 use Rattle.rules.specs.Block.{processCount}
-use Rattle.rules.specs.Order.{trackerPages}
 use Rattle.rules.specs.Refusals.{verdict}
 use Rattle.rules.specs.Load.{boots, ramAfter, answerTo, answer}
 use Rattle.rules.specs.Sees.{seenFrom, rootOf, processSees}
-use Rattle.rules.specs.Compare.{compared, Agree}
 use Rattle.laws.specs.Choice.{by-choose, choose-yes, choose-map}
 use Rattle.demands.specs.Demand2.{sees-what-the-rules-give}
 use Rattle.demands.specs.Demand3.{SameOnBoth, boots-on-larger-ram, same-on-both}
 use Rattle.loader.specs.declared.Root.{Root}
-use Rattle.loader.specs.declared.Root.the-variants.{Nowhere, At}
+use Rattle.loader.specs.declared.Root.the-variants.{At}
 use Rattle.loader.specs.Roots.{isProcess, rootFound}
 use Rattle.two_boards.specs.declared.Board.{Board}
-use Rattle.two_boards.specs.declared.Boards.{Boards}
 use Rattle.two_boards.specs.Promise.{seenAt, seenAfter, OneBoard, TwoBoards}
 
 is-process : (b : List ℕ) (q : ℕ) → 1 ≤ q → q ≤ processCount b → isProcess b q ≡ true

@@ -2,12 +2,11 @@
 -- at address a.
 use mathlib.Core.Path.{_≡_}
 use mathlib.Core.Logic.{_≢_}
-use mathlib.Core.Bool.{Bool, true, _&&_}
+use mathlib.Core.Bool.{true, _&&_}
 use mathlib.Core.List.{List}
 use Prim.Native.Nat.{ℕ, _-_, _/_, _≤_}
 use lib.ListN.{length}
 use Rattle.notation.specs.Choice.{choose}
-use Rattle.types.specs.declared.Answer.{Answer}
 use Rattle.types.specs.declared.View.{View}
 use Rattle.types.specs.declared.View.the-variants.{Absent}
 use Rattle.rules.specs.Block.{processCount}
@@ -16,7 +15,6 @@ use Rattle.rules.specs.Contents.{tracker}
 use Rattle.rules.specs.Load.{satpWord, boots, ramAfter, answer}
 use Rattle.rules.specs.Sees.{sees, seenFrom, processSees}
 use Rattle.rules.specs.Compare.{compared, Agree}
-use Rattle.types.specs.declared.PhysPage.{PhysPage}
 use Rattle.loader.specs.declared.Root.{Root}
 use Rattle.loader.specs.declared.Root.the-variants.{Nowhere, At}
 use Rattle.loader.specs.Roots.{isProcess}

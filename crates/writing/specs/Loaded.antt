@@ -1,21 +1,20 @@
 -- Writing the pages of all uses in order leaves RAM as the rules say.
-use mathlib.Core.Path.{_≡_, refl, sym, ap, _∙_}
-use mathlib.Core.List.{List, [], _∷_, _++_}
+use mathlib.Core.Path.{_≡_, refl, _∙_}
+use mathlib.Core.List.{List, _∷_, _++_}
 use mathlib.Core.Option.{Option, none, some}
 use mathlib.Core.Bool.{Bool, true, false}
-use Prim.Native.Nat.{ℕ, _+_, _-_, _*_, _/_, _%_, _≤_, _<_}
+use Prim.Native.Nat.{ℕ, _+_, _-_, _*_, _/_, _≤_, _<_}
 use native.Mathlib.Decide.{decLt}
 use native.Mathlib.Omega.{arith}
-use lib.ListN.{length, getD, length-append}
-use Rattle.notation.specs.Choice.{choose}
+use lib.ListN.{length, length-append}
 use Rattle.notation.specs.Lists.{tab, gather, lookup}
 use Rattle.rules.specs.Block.{processCount, sectionsOf, sectionRecord, pageCount}
-use Rattle.rules.specs.Space.{Data, sectionPage, trackerPage, processList, blockCopy}
+use Rattle.rules.specs.Space.{sectionPage, trackerPage, processList, blockCopy}
 use Rattle.rules.specs.Order.{Use, top, holds, rootTable, leafTable, sectionUses, hasLeaf, tableUses, order, uses, trackerPages, pagesNeeded, useOf}
 use Rattle.rules.specs.Contents.{sectionPageByte, dataByte}
 use Rattle.rules.specs.Load.{pageByte, loaded}
 use Rattle.laws.specs.Choice.{by-choose}
-use Rattle.laws.specs.Lists.{Every, every-at, every-append, every-tab, every-gather, tab-length, tab-by, lookup-right, lookup-inside}
+use Rattle.laws.specs.Lists.{Every, every-at, every-append, every-tab, every-gather, tab-length, tab-by, lookup-right}
 use Rattle.placement.specs.Uses.{use-top}
 use Rattle.writing.specs.Uses.{writeUses, write-length, write-above, afterUse, write-byte, write-same}
 

@@ -6,10 +6,6 @@ use native.Mathlib.Omega.{arith}
 use borrow.Author.Needs.{needs}
 use Rattle.counts.proofs.process_pages.Statement.{statement}
 use Rattle.counts.proofs.process_pages.Tie as tie
-use Rattle.counts.proofs.process_pages.Reads as reads
-use Rattle.counts.proofs.process_pages.Lts as lts
-use Rattle.records.proofs.read_process.Reads as read-process-reads
-use Rattle.records.proofs.read_section.Reads as read-section-reads
 
 abbrev Inv-loop : tie.InvT-loop
 Inv-loop block q first count pages₀ j₀ pages j = (j ≤ count) × (pages ≡ pagesBefore block q j) × (pages ≤ 0x20_0000 * j)

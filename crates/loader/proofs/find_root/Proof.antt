@@ -3,12 +3,6 @@ use native.Mathlib.Omega.{arith}
 use borrow.Author.Needs.{needs}
 use Rattle.loader.proofs.find_root.Statement.{statement}
 use Rattle.loader.proofs.find_root.Tie as tie
-use Rattle.loader.proofs.find_root.Reads as reads
-use Rattle.loader.proofs.find_root.Lts as lts
-use Rattle.checks.proofs.check.Reads as check-reads
-use Rattle.loader.proofs.places.page_at.Reads as page-at-reads
-use Rattle.loader.proofs.places.place_after_tables.Reads as place-after-tables-reads
-use Rattle.records.proofs.process_count.Reads as process-count-reads
 
 check-requires : tie.Need-check-requires
 check-requires c κs = search needs

@@ -3,11 +3,6 @@ use native.Mathlib.Omega.{arith}
 use borrow.Author.Needs.{needs}
 use Rattle.loader.proofs.load.Statement.{statement}
 use Rattle.loader.proofs.load.Tie as tie
-use Rattle.loader.proofs.load.Reads as reads
-use Rattle.loader.proofs.load.Lts as lts
-use Rattle.checks.proofs.check.Reads as check-reads
-use Rattle.loader.proofs.load_pages.Reads as load-pages-reads
-use Rattle.loader.proofs.places.tracker_pages.Reads as tracker-pages-reads
 
 check-requires : tie.Need-check-requires
 check-requires c κs = search needs

@@ -1,14 +1,8 @@
 use Rattle.writing.specs.Pages.{put-part}
 use Rattle.loader.proofs.Loading.{block-content}
-use native.Mathlib.Omega.{arith}
 use borrow.Author.Needs.{needs}
 use Rattle.loader.proofs.load_block.Statement.{statement}
 use Rattle.loader.proofs.load_block.Tie as tie
-use Rattle.loader.proofs.load_block.Reads as reads
-use Rattle.loader.proofs.load_block.Lts as lts
-use Rattle.pages.proofs.PageAllocator.allocate.Reads as allocate-reads
-use Rattle.pages.proofs.block_page.Reads as block-page-reads
-use Rattle.slices.proofs.least.Reads as least-reads
 
 allocate-requires : tie.Need-allocate-requires
 allocate-requires c κs = search needs

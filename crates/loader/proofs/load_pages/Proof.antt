@@ -7,15 +7,6 @@ use native.Mathlib.Omega.{arith}
 use borrow.Author.Needs.{needs}
 use Rattle.loader.proofs.load_pages.Statement.{statement}
 use Rattle.loader.proofs.load_pages.Tie as tie
-use Rattle.loader.proofs.load_pages.Reads as reads
-use Rattle.loader.proofs.load_pages.Lts as lts
-use Rattle.loader.proofs.load_block.Reads as load-block-reads
-use Rattle.loader.proofs.places.place_after_tables.Reads as place-after-tables-reads
-use Rattle.loader.proofs.process_list.load_process_list.Reads as load-process-list-reads
-use Rattle.loader.proofs.table_pages.load_tables.Reads as load-tables-reads
-use Rattle.loader.proofs.tracker.load_tracker.Reads as load-tracker-reads
-use Rattle.records.proofs.process_count.Reads as process-count-reads
-use Rattle.sections.proofs.load_sections.Reads as load-sections-reads
 
 cast-pages : tie.Need-cast-pages
 cast-pages c = search needs

@@ -1,11 +1,8 @@
 use mathlib.Core.Path.{sym}
 use lib.Seq.{set-out}
-use native.Mathlib.Omega.{arith}
 use borrow.Author.Needs.{needs}
 use Rattle.rigpollen.proofs.put.Statement.{statement}
 use Rattle.rigpollen.proofs.put.Tie as tie
-use Rattle.rigpollen.proofs.put.Reads as reads
-use Rattle.rigpollen.proofs.put.Lts as lts
 
 mul-words : tie.Need-mul-words
 mul-words c = search needs

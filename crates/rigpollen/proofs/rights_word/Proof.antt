@@ -3,9 +3,6 @@ use native.Mathlib.Omega.{arith}
 use borrow.Author.Needs.{needs}
 use Rattle.rigpollen.proofs.rights_word.Statement.{statement}
 use Rattle.rigpollen.proofs.rights_word.Tie as tie
-use Rattle.rigpollen.proofs.rights_word.Reads as reads
-use Rattle.rigpollen.proofs.rights_word.Lts as lts
-use Rattle.rigpollen.proofs.weight.Reads as weight-reads
 
 weight-requires : tie.Need-weight-requires
 weight-requires c κs = search needs

@@ -1,14 +1,9 @@
 use mathlib.Core.Path.{ap}
 use Rattle.types.specs.declared.Answer.{Answer}
 use Rattle.rigpollen.proofs.Told.{answer-told}
-use native.Mathlib.Omega.{arith}
 use borrow.Author.Needs.{needs}
 use Rattle.rigpollen.proofs.rigpollen_answer.Statement.{statement}
 use Rattle.rigpollen.proofs.rigpollen_answer.Tie as tie
-use Rattle.rigpollen.proofs.rigpollen_answer.Reads as reads
-use Rattle.rigpollen.proofs.rigpollen_answer.Lts as lts
-use Rattle.loader.proofs.load.Reads as load-reads
-use Rattle.rigpollen.proofs.put.Reads as put-reads
 
 load-requires : tie.Need-load-requires
 load-requires c κs = search needs

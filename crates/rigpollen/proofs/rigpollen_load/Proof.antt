@@ -1,12 +1,8 @@
 use mathlib.Core.Path.{ap}
 use Rattle.types.specs.declared.Answer.{Answer}
-use native.Mathlib.Omega.{arith}
 use borrow.Author.Needs.{needs}
 use Rattle.rigpollen.proofs.rigpollen_load.Statement.{statement}
 use Rattle.rigpollen.proofs.rigpollen_load.Tie as tie
-use Rattle.rigpollen.proofs.rigpollen_load.Reads as reads
-use Rattle.rigpollen.proofs.rigpollen_load.Lts as lts
-use Rattle.loader.proofs.load.Reads as load-reads
 
 load-requires : tie.Need-load-requires
 load-requires c κs = search needs

@@ -1,11 +1,6 @@
-use native.Mathlib.Omega.{arith}
 use borrow.Author.Needs.{needs}
 use Rattle.rigpollen.proofs.rigpollen_walk.Statement.{statement}
 use Rattle.rigpollen.proofs.rigpollen_walk.Tie as tie
-use Rattle.rigpollen.proofs.rigpollen_walk.Reads as reads
-use Rattle.rigpollen.proofs.rigpollen_walk.Lts as lts
-use Rattle.reader.proofs.walk.Reads as walk-reads
-use Rattle.rigpollen.proofs.tell.Reads as tell-reads
 
 walk-requires : tie.Need-walk-requires
 walk-requires c κs = search needs

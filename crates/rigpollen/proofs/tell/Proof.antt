@@ -1,12 +1,7 @@
 use Rattle.rigpollen.proofs.Told.{page-told}
-use native.Mathlib.Omega.{arith}
 use borrow.Author.Needs.{needs}
 use Rattle.rigpollen.proofs.tell.Statement.{statement}
 use Rattle.rigpollen.proofs.tell.Tie as tie
-use Rattle.rigpollen.proofs.tell.Reads as reads
-use Rattle.rigpollen.proofs.tell.Lts as lts
-use Rattle.rigpollen.proofs.put.Reads as put-reads
-use Rattle.rigpollen.proofs.rights_word.Reads as rights-word-reads
 
 enum-told : tie.Need-enum-told
 enum-told c = search needs

@@ -1,11 +1,8 @@
 use mathlib.Core.Path.{sym}
 use Rattle.laws.specs.Choice.{choose-yes, choose-no}
-use native.Mathlib.Omega.{arith}
 use borrow.Author.Needs.{needs}
 use Rattle.rigpollen.proofs.weight.Statement.{statement}
 use Rattle.rigpollen.proofs.weight.Tie as tie
-use Rattle.rigpollen.proofs.weight.Reads as reads
-use Rattle.rigpollen.proofs.weight.Lts as lts
 
 returns : tie.Need-returns
 returns c = (sym (choose-yes _ _ (c .if1 .taken)), search needs)

@@ -2,10 +2,6 @@ use Rattle.writing.specs.Pages.{put-part}
 use borrow.Author.Needs.{needs}
 use Rattle.sections.proofs.load_page.Statement.{statement}
 use Rattle.sections.proofs.load_page.Tie as tie
-use Rattle.sections.proofs.load_page.Reads as reads
-use Rattle.sections.proofs.load_page.Lts as lts
-use Rattle.pages.proofs.section_page.Reads as section-page-reads
-use Rattle.slices.proofs.least.Reads as least-reads
 
 cast-least : tie.Need-cast-least
 cast-least c = search needs

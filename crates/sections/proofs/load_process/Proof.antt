@@ -7,10 +7,6 @@ use native.Mathlib.Omega.{arith}
 use borrow.Author.Needs.{needs}
 use Rattle.sections.proofs.load_process.Statement.{statement}
 use Rattle.sections.proofs.load_process.Tie as tie
-use Rattle.sections.proofs.load_process.Reads as reads
-use Rattle.sections.proofs.load_process.Lts as lts
-use Rattle.records.proofs.read_process.Reads as read-process-reads
-use Rattle.sections.proofs.load_section.Reads as load-section-reads
 
 abbrev Inv-loop : tie.InvT-loop
 Inv-loop ram₀ block flash q count next₀ j₀ ram next j = (j ≤ count) × Wrote (sectionContent block flash) (gather j (sectionPages block q)) ram₀ (next₀ .left) ram (next .left)

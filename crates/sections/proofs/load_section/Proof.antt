@@ -1,5 +1,4 @@
-use mathlib.Core.Path.{_≡_, _∙_}
-use Prim.Native.Nat.{_+_, _-_, _≤_}
+use Prim.Native.Nat.{_-_, _≤_}
 use Rattle.notation.specs.Lists.{tab}
 use Rattle.rules.specs.Space.{sectionPage}
 use Rattle.rules.specs.Order.{holds}
@@ -10,12 +9,6 @@ use native.Mathlib.Omega.{arith}
 use borrow.Author.Needs.{needs}
 use Rattle.sections.proofs.load_section.Statement.{statement}
 use Rattle.sections.proofs.load_section.Tie as tie
-use Rattle.sections.proofs.load_section.Reads as reads
-use Rattle.sections.proofs.load_section.Lts as lts
-use Rattle.pages.proofs.PageAllocator.allocate.Reads as allocate-reads
-use Rattle.records.proofs.read_process.Reads as read-process-reads
-use Rattle.records.proofs.read_section.Reads as read-section-reads
-use Rattle.sections.proofs.load_page.Reads as load-page-reads
 
 abbrev Inv-loop : tie.InvT-loop
 Inv-loop ram₀ block flash q j n count next₀ i₀ ram next i = (i ≤ count) × Wrote (sectionContent block flash) (tab i (λ i. holds (sectionPage q j i))) ram₀ (next₀ .left) ram (next .left)

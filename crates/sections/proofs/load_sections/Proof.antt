@@ -8,11 +8,6 @@ use native.Mathlib.Omega.{arith}
 use borrow.Author.Needs.{needs}
 use Rattle.sections.proofs.load_sections.Statement.{statement}
 use Rattle.sections.proofs.load_sections.Tie as tie
-use Rattle.sections.proofs.load_sections.Reads as reads
-use Rattle.sections.proofs.load_sections.Lts as lts
-use Rattle.records.proofs.process_count.Reads as process-count-reads
-use Rattle.sections.proofs.load_process.Reads as load-process-reads
-use Rattle.slices.proofs.minus.Reads as minus-reads
 
 abbrev Inv-loop : tie.InvT-loop
 Inv-loop ram₀ block flash users next₀ i₀ ram next i = (i ≤ users) × Wrote (sectionContent block flash) (gather i (λ i. sectionUses block (i + 2))) ram₀ (next₀ .left) ram (next .left)

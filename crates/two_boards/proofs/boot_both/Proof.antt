@@ -1,11 +1,7 @@
 use Rattle.two_boards.proofs.FromTheorems.{two-boards}
-use native.Mathlib.Omega.{arith}
 use borrow.Author.Needs.{needs}
 use Rattle.two_boards.proofs.boot_both.Statement.{statement}
 use Rattle.two_boards.proofs.boot_both.Tie as tie
-use Rattle.two_boards.proofs.boot_both.Reads as reads
-use Rattle.two_boards.proofs.boot_both.Lts as lts
-use Rattle.two_boards.proofs.boot_one.Reads as boot-one-reads
 
 boot-one-requires : tie.Need-boot-one-requires
 boot-one-requires c κs = search needs

@@ -1,13 +1,7 @@
 use Rattle.two_boards.proofs.FromTheorems.{one-board}
-use native.Mathlib.Omega.{arith}
 use borrow.Author.Needs.{needs}
 use Rattle.two_boards.proofs.boot_one.Statement.{statement}
 use Rattle.two_boards.proofs.boot_one.Tie as tie
-use Rattle.two_boards.proofs.boot_one.Reads as reads
-use Rattle.two_boards.proofs.boot_one.Lts as lts
-use Rattle.loader.proofs.find_root.Reads as find-root-reads
-use Rattle.loader.proofs.load.Reads as load-reads
-use Rattle.two_boards.proofs.seen_at.Reads as seen-at-reads
 
 find-root-requires : tie.Need-find-root-requires
 find-root-requires c κs = search needs

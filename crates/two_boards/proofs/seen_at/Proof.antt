@@ -1,11 +1,7 @@
 use Rattle.two_boards.proofs.FromTheorems.{seen-by-way}
-use native.Mathlib.Omega.{arith}
 use borrow.Author.Needs.{needs}
 use Rattle.two_boards.proofs.seen_at.Statement.{statement}
 use Rattle.two_boards.proofs.seen_at.Tie as tie
-use Rattle.two_boards.proofs.seen_at.Reads as reads
-use Rattle.two_boards.proofs.seen_at.Lts as lts
-use Rattle.reader.proofs.seen_from.Reads as seen-from-reads
 
 enum-told : tie.Need-enum-told
 enum-told c = search needs

@@ -4,11 +4,6 @@ use native.Mathlib.Omega.{arith}
 use borrow.Author.Needs.{needs}
 use Rattle.loader.proofs.places.place_after_tables.Statement.{statement}
 use Rattle.loader.proofs.places.place_after_tables.Tie as tie
-use Rattle.loader.proofs.places.place_after_tables.Reads as reads
-use Rattle.loader.proofs.places.place_after_tables.Lts as lts
-use Rattle.leaves.proofs.table_count.Reads as table-count-reads
-use Rattle.loader.proofs.places.tracker_pages.Reads as tracker-pages-reads
-use Rattle.loader.proofs.places.tracker_place.Reads as tracker-place-reads
 
 abbrev Inv-loop : tie.InvT-loop
 Inv-loop block pages n place₀ i₀ place i = (i ≤ n) × Needed block pages place i

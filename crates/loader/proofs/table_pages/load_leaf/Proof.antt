@@ -1,12 +1,7 @@
 use Rattle.loader.proofs.TablePages.{blank, leaf-page}
-use native.Mathlib.Omega.{arith}
 use borrow.Author.Needs.{needs}
 use Rattle.loader.proofs.table_pages.load_leaf.Statement.{statement}
 use Rattle.loader.proofs.table_pages.load_leaf.Tie as tie
-use Rattle.loader.proofs.table_pages.load_leaf.Reads as reads
-use Rattle.loader.proofs.table_pages.load_leaf.Lts as lts
-use Rattle.loader.proofs.leaf_entries.leaf_entries.Reads as leaf-entries-reads
-use Rattle.loader.proofs.table_pages.store.Reads as store-reads
 
 slice-aggregate-leaf-entries : tie.Need-slice-aggregate-leaf-entries
 slice-aggregate-leaf-entries c = search needs

@@ -9,10 +9,6 @@ use native.Mathlib.Omega.{arith}
 use borrow.Author.Needs.{needs}
 use Rattle.loader.proofs.table_pages.load_leaves.Statement.{statement}
 use Rattle.loader.proofs.table_pages.load_leaves.Tie as tie
-use Rattle.loader.proofs.table_pages.load_leaves.Reads as reads
-use Rattle.loader.proofs.table_pages.load_leaves.Lts as lts
-use Rattle.loader.proofs.table_pages.load_marked.Reads as load-marked-reads
-use Rattle.slices.proofs.byte.Reads as byte-reads
 
 abbrev Inv-loop : tie.InvT-loop
 Inv-loop ram₀ block base pages q marks next₀ m₀ ram next m = (m ≤ 1024) × Tables block base pages (gather m (leafUses block q)) ram₀ (next₀ .left) ram (next .left)

@@ -1,12 +1,7 @@
 use Rattle.loader.proofs.TablePages.{is-marked, no-leaf, one-leaf}
-use native.Mathlib.Omega.{arith}
 use borrow.Author.Needs.{needs}
 use Rattle.loader.proofs.table_pages.load_marked.Statement.{statement}
 use Rattle.loader.proofs.table_pages.load_marked.Tie as tie
-use Rattle.loader.proofs.table_pages.load_marked.Reads as reads
-use Rattle.loader.proofs.table_pages.load_marked.Lts as lts
-use Rattle.loader.proofs.table_pages.load_leaf.Reads as load-leaf-reads
-use Rattle.pages.proofs.PageAllocator.allocate.Reads as allocate-reads
 
 returns : tie.Need-returns
 returns c = no-leaf _ _ _ _ _ _ _ (c .before .before .before .pre .3) (c .before .before .before .pre .4) (c .if1 .taken)

@@ -3,12 +3,6 @@ use native.Mathlib.Omega.{arith}
 use borrow.Author.Needs.{needs}
 use Rattle.loader.proofs.table_pages.load_process_tables.Statement.{statement}
 use Rattle.loader.proofs.table_pages.load_process_tables.Tie as tie
-use Rattle.loader.proofs.table_pages.load_process_tables.Reads as reads
-use Rattle.loader.proofs.table_pages.load_process_tables.Lts as lts
-use Rattle.leaves.proofs.leaf_marks.Reads as leaf-marks-reads
-use Rattle.loader.proofs.table_pages.load_leaves.Reads as load-leaves-reads
-use Rattle.loader.proofs.table_pages.load_root.Reads as load-root-reads
-use Rattle.pages.proofs.PageAllocator.allocate.Reads as allocate-reads
 
 slice-aggregate-leaf-marks : tie.Need-slice-aggregate-leaf-marks
 slice-aggregate-leaf-marks c = search needs

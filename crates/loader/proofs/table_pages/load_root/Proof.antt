@@ -1,12 +1,7 @@
 use Rattle.loader.proofs.TablePages.{blank, root-page}
-use native.Mathlib.Omega.{arith}
 use borrow.Author.Needs.{needs}
 use Rattle.loader.proofs.table_pages.load_root.Statement.{statement}
 use Rattle.loader.proofs.table_pages.load_root.Tie as tie
-use Rattle.loader.proofs.table_pages.load_root.Reads as reads
-use Rattle.loader.proofs.table_pages.load_root.Lts as lts
-use Rattle.loader.proofs.table_pages.store.Reads as store-reads
-use Rattle.tables.proofs.point_to_leaves.Reads as point-to-leaves-reads
 
 slice-aggregate-point-to-leaves : tie.Need-slice-aggregate-point-to-leaves
 slice-aggregate-point-to-leaves c = search needs

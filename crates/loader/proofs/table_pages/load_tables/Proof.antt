@@ -6,10 +6,6 @@ use native.Mathlib.Omega.{arith}
 use borrow.Author.Needs.{needs}
 use Rattle.loader.proofs.table_pages.load_tables.Statement.{statement}
 use Rattle.loader.proofs.table_pages.load_tables.Tie as tie
-use Rattle.loader.proofs.table_pages.load_tables.Reads as reads
-use Rattle.loader.proofs.table_pages.load_tables.Lts as lts
-use Rattle.loader.proofs.table_pages.load_process_tables.Reads as load-process-tables-reads
-use Rattle.records.proofs.process_count.Reads as process-count-reads
 
 abbrev Inv-loop : tie.InvT-loop
 Inv-loop ram₀ block base pages kernel-leaf count next₀ i₀ ram next i = (i ≤ count) × Tables block base pages (gather i (λ i. tableUses block (i + 1))) ram₀ (next₀ .left) ram (next .left)

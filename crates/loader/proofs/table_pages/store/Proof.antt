@@ -1,12 +1,7 @@
 use Rattle.loader.proofs.TablePages.{stored}
-use native.Mathlib.Omega.{arith}
 use borrow.Author.Needs.{needs}
 use Rattle.loader.proofs.table_pages.store.Statement.{statement}
 use Rattle.loader.proofs.table_pages.store.Tie as tie
-use Rattle.loader.proofs.table_pages.store.Reads as reads
-use Rattle.loader.proofs.table_pages.store.Lts as lts
-use Rattle.slices.proofs.least.Reads as least-reads
-use Rattle.slices.proofs.words_in.Reads as words-in-reads
 
 cast-least : tie.Need-cast-least
 cast-least c = search needs
