@@ -1,27 +1,27 @@
--- Text after text, a number's digits, and the loops' steps.
+-- Text after text, the digits of a number, and the lines of the listing.
 use mathlib.Core.Path.{_≡_, refl, sym, ap, _∙_}
+use mathlib.Core.Logic.{_≢_}
 use mathlib.Core.List.{List, [], _++_}
-use Prim.Native.Nat.{ℕ, _+_, _-_, _*_, _/_, _%_, _^_, _≤_, _<_, min}
+use Prim.Native.Nat.{ℕ, _+_, _-_, _/_, _^_, _≤_, _<_, min}
 use native.Mathlib.Numerals.{add-one}
 use native.Mathlib.Nat.{pow-le-pow-right}
 use native.Mathlib.Decide.{decLt}
 use native.Mathlib.Omega.{arith}
-use lib.Dec.{ltb, eqb}
-use lib.ListN.{length, getD, drop, length-append, List·getD-append}
+use lib.Dec.{ltb}
+use lib.ListN.{length, getD, length-append, List·getD-append}
 use lib.Seq.{ext-getD}
 use borrow.Author.Tests.{lt-ltb, le-ltb, le-leb, lt-leb, eq-eqb, ne-eqb}
 use Rattle.io.specs.Digits.{digits, Fewest}
-use Rattle.notation.specs.Choice.{choose}
-use Rattle.notation.specs.Lists.{gather, sum}
-use Rattle.notation.specs.Words.{word}
+use Rattle.notation.specs.Lists.{gather}
 use Rattle.laws.specs.Choice.{choose-yes, choose-no}
 use Rattle.laws.specs.Lists.{tab-length, tab-get, append-get-right, first-at-tab}
-use Rattle.laws.specs.Counts.{sum-none, sum-next}
 use Rattle.types.specs.declared.Answer.{Answer}
-use Rattle.rules.specs.Block.{processCount, pageCount}
+use Rattle.rules.specs.Block.{processCount}
+use Rattle.rules.specs.Order.{rootTable, pagesOf}
+use Rattle.rules.specs.Load.{physPage, answer}
 use Rattle.slices.specs.Writes.{copied}
 use Rattle.report.specs.Text.{Appended, places, numeral, bootLine, processLine, refusedLine}
-use Rattle.report.specs.Listing.{sectionPages, trackerOn, processListOn, bytesOf, rootIn, processLines, listing}
+use Rattle.report.specs.Listing.{processLines, listing}
 
 -- COPIED
 copied-length : (d : List ℕ) (at : ℕ) (s : List ℕ) → length (copied d at s) ≡ length d
@@ -98,51 +98,33 @@ pub numeral-is : (b n k : ℕ) (t : List ℕ) → 0 < b → n < b ^ 20 → Fewes
 unfolding numeral
 numeral-is b n k t p h f e = e ∙ ap (λ (j : ℕ). digits b j n) (sym (places-is b n k p h f))
 
--- COUNTING
-pub bytes-none : (t : List ℕ) (q : ℕ) → 0 ≡ bytesOf t 0 q
-unfolding bytesOf
-bytes-none t q = sym (sum-none _)
-
-pub bytes-more : (t : List ℕ) (k q : ℕ) {n b r : ℕ} → n ≡ bytesOf t k q → b ≡ getD t k 0 → r ≡ choose (eqb b q) 1 0 → n + r ≡ bytesOf t (k + 1) q
-unfolding bytesOf
-bytes-more t k q e h l = rw (e, l, h, sum-next)
-
-pub pages-more : (b : List ℕ) (n : ℕ) {m r : ℕ} → m ≡ sum n (pageCount b) → r ≡ pageCount b n → m + r ≡ sum (n + 1) (pageCount b)
-pages-more b n e h = rw (e, h, sum-next)
-
 -- LINES
-pub lines-none : (t l : List ℕ) (N : ℕ) → processLines t l N 0 ≡ []
+pub lines-none : (b : List ℕ) (base N : ℕ) → processLines b base N 0 ≡ []
 unfolding processLines gather
-lines-none t l N = refl
+lines-none b base N = refl
 
-gather-more : (n : ℕ) (f : ℕ → List ℕ) → gather (n + 1) f ≡ gather n f ++ f n
+gather-next : (n : ℕ) (f : ℕ → List ℕ) → gather (n + 1) f ≡ gather n f ++ f n
 unfolding gather
-gather-more n f = rw add-one
+gather-next n f = rw add-one
 
-pub lines-more : (t l : List ℕ) (N i : ℕ) → processLines t l N (i + 1) ≡ processLines t l N i ++ processLine (i + 1) (bytesOf t N (i + 1)) (rootIn l i)
+pub lines-next : (b : List ℕ) (base N i : ℕ) {xs ys zs : List ℕ} {at m r pages root : ℕ} → Appended xs at (processLines b base N i) ys m
+    → pages ≡ pagesOf b N (i + 1)
+    → root ≡ physPage b base N (rootTable (i + 1))
+    → Appended ys m (processLine (i + 1) pages root) zs r
+    → Appended xs at (processLines b base N (i + 1)) zs r
 unfolding processLines
-lines-more t l N i = gather-more i _
-
-pub lines-then : (t l : List ℕ) (N i : ℕ) {xs ys zs : List ℕ} {at m r b w : ℕ} → Appended xs at (processLines t l N i) ys m
-    → b ≡ bytesOf t N (i + 1)
-    → w ≡ word l (12 * i)
-    → Appended ys m (processLine (i + 1) b (w % 0x40_0000)) zs r
-    → Appended xs at (processLines t l N (i + 1)) zs r
-unfolding rootIn
-lines-then t l N i p e h q = rw lines-more (appended-then p (rw (e, h) at q))
+lines-next b base N i p e h q = rw gather-next (appended-then p (rw (e, h) at q))
 
 -- LISTING
-pub listed-refused : (b ram : List ℕ) (a : Answer) {xs ys : List ℕ} {r : ℕ} → (a .number ≡ 0 → ⊥) → Appended xs 0 (refusedLine (a .number) (a .place)) ys r
-    → Appended xs 0 (listing b ram a) ys r
+pub listed-refused : (b : List ℕ) (flash start len : ℕ) (a : Answer) {xs ys : List ℕ} {r : ℕ} → a ≡ answer b flash start len → a .number ≢ 0
+    → Appended xs 0 (refusedLine (a .number) (a .place)) ys r
+    → Appended xs 0 (listing b flash start len) ys r
 unfolding listing
-listed-refused b ram a n p = rw (choose-no _ _ (ne-eqb _ _ n)) p
+listed-refused b flash start len a e n p = rw (← e) (rw (choose-no _ _ (ne-eqb _ _ n)) p)
 
--- below the four pages at the top and the sections' n pages the tracker starts at page u, and the process list is page v
-pub listed-booted : (b ram : List ℕ) (a : Answer) {n m u v p : ℕ} {t l xs ys zs : List ℕ} {i r : ℕ} → a .number ≡ 0
-    → n ≡ sectionPages b → m ≡ length ram / 4096 - 5 → u ≡ m - n → v ≡ u - a .tracker → p ≡ processCount b
-    → t ≡ drop (4096 * u) ram → l ≡ drop (4096 * v) ram
-    → Appended xs 0 (bootLine (length ram / 4096) (a .free)) ys i
-    → Appended ys i (processLines t l (length ram / 4096) p) zs r
-    → Appended xs 0 (listing b ram a) zs r
-unfolding listing trackerOn processListOn
-listed-booted b ram a e n m u v p t l f g = rw (choose-yes _ _ (eq-eqb _ _ e)) (appended-then f (rw (t, l, v, u, m, n, p) at g))
+pub listed-booted : (b : List ℕ) (flash start len : ℕ) (a : Answer) {xs ys zs : List ℕ} {i r : ℕ} → a ≡ answer b flash start len → a .number ≡ 0
+    → Appended xs 0 (bootLine (len / 4096) (a .free)) ys i
+    → Appended ys i (processLines b (start / 4096) (len / 4096) (processCount b)) zs r
+    → Appended xs 0 (listing b flash start len) zs r
+unfolding listing
+listed-booted b flash start len a e z p q = rw (← e) (rw (choose-yes _ _ (eq-eqb _ _ z)) (appended-then p q))

@@ -34,14 +34,28 @@ wordText w = 48 ∷ 120 ∷ digit (w / 268435456) ∷ digit (w / 16777216 % 16) 
     ∷ digit (w / 4096 % 16) ∷ digit (w / 256 % 16) ∷ digit (w / 16 % 16) ∷ digit (w % 16) ∷ []
 
 -- LINES
+-- two numbers in a text: before, between and after them
+unfoldable pub twoNumbers : List ℕ → ℕ → List ℕ → ℕ → List ℕ → List ℕ
+twoNumbers before n between m after = before ++ (numeral 10 n ++ (between ++ (numeral 10 m ++ after)))
+
 -- `boot N pages, F free`
 unfoldable pub bootLine : ℕ → ℕ → List ℕ
-bootLine N free = (98 ∷ 111 ∷ 111 ∷ 116 ∷ 32 ∷ []) ++ (numeral 10 N ++ ((32 ∷ 112 ∷ 97 ∷ 103 ∷ 101 ∷ 115 ∷ 44 ∷ 32 ∷ []) ++ (numeral 10 free ++ (32 ∷ 102 ∷ 114 ∷ 101 ∷ 101 ∷ 10 ∷ []))))
+bootLine N free = twoNumbers
+    (98 ∷ 111 ∷ 111 ∷ 116 ∷ 32 ∷ []) N
+    (32 ∷ 112 ∷ 97 ∷ 103 ∷ 101 ∷ 115 ∷ 44 ∷ 32 ∷ []) free
+    (32 ∷ 102 ∷ 114 ∷ 101 ∷ 101 ∷ 10 ∷ [])
 
 -- `pid Q pages M root HEX`
 unfoldable pub processLine : ℕ → ℕ → ℕ → List ℕ
-processLine q m root = (112 ∷ 105 ∷ 100 ∷ 32 ∷ []) ++ (numeral 10 q ++ ((32 ∷ 112 ∷ 97 ∷ 103 ∷ 101 ∷ 115 ∷ 32 ∷ []) ++ (numeral 10 m ++ ((32 ∷ 114 ∷ 111 ∷ 111 ∷ 116 ∷ 32 ∷ []) ++ (numeral 16 root ++ (10 ∷ []))))))
+processLine q m root = twoNumbers
+    (112 ∷ 105 ∷ 100 ∷ 32 ∷ []) q
+    (32 ∷ 112 ∷ 97 ∷ 103 ∷ 101 ∷ 115 ∷ 32 ∷ []) m
+    (32 ∷ 114 ∷ 111 ∷ 111 ∷ 116 ∷ 32 ∷ [])
+    ++ (numeral 16 root ++ (10 ∷ []))
 
 -- `refused N at P`
 unfoldable pub refusedLine : ℕ → ℕ → List ℕ
-refusedLine number place = (114 ∷ 101 ∷ 102 ∷ 117 ∷ 115 ∷ 101 ∷ 100 ∷ 32 ∷ []) ++ (numeral 10 number ++ ((32 ∷ 97 ∷ 116 ∷ 32 ∷ []) ++ (numeral 10 place ++ (10 ∷ []))))
+refusedLine number place = twoNumbers
+    (114 ∷ 101 ∷ 102 ∷ 117 ∷ 115 ∷ 101 ∷ 100 ∷ 32 ∷ []) number
+    (32 ∷ 97 ∷ 116 ∷ 32 ∷ []) place
+    (10 ∷ [])

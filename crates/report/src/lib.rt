@@ -1,15 +1,18 @@
 // The listing program's text: a load, and what 01 has the listing say of it.
 ghost use mathlib.Core.Path.{_≡_};
-ghost use Prim.Native.Nat.{_*_, _≤_};
+ghost use Prim.Native.Nat.{_-_, _/_, _≤_};
 ghost use lib.Dec.{eqb};
 ghost use lib.ListN.{length};
 ghost use Rattle.notation.specs.Choice.{choose};
-ghost use Rattle.rules.specs.Block.{sectionCount};
-ghost use Rattle.rules.specs.Load.{answer as answerOf, ramAfter};
-ghost use Rattle.report.specs.Text.{Appended, bootLine, processLine, refusedLine};
-ghost use Rattle.report.specs.Listing.{sectionPages, bytesOf, processLines, listing as listingOf};
+ghost use Rattle.rules.specs.Block.{processCount};
+ghost use Rattle.rules.specs.Order.{rootTable, pagesOf};
+ghost use Rattle.rules.specs.Refusals.{verdict};
+ghost use Rattle.rules.specs.Load.{physPage, ramAfter};
+ghost use Rattle.placement.specs.Places.{processPages, userPages};
+ghost use Rattle.report.specs.Text.{Appended, twoNumbers, bootLine, processLine, refusedLine};
+ghost use Rattle.report.specs.Listing.{processLines, listing};
+use loader::Root;
 use text::put_hex;
-use types::Answer;
 
 mod text;
 
@@ -17,114 +20,133 @@ pub use text::put;
 pub use text::put_decimal;
 pub use text::put_word;
 
+// A text with two numbers in it.
+fn two_numbers(
+    to: &mut [u8],
+    at: usize,
+    before: &[u8],
+    n: u64,
+    between: &[u8],
+    m: u64,
+    after: &[u8],
+) -> usize
+    ensures { λ r. ⌜ Appended (now (to .entry)) at (twoNumbers (now (before .entry)) n (now (between .entry)) m (now (after .entry))) (now (to .exit)) r ⌝ }
+{
+    let first = put(to, at, before);
+    let middle = put_decimal(to, first, n);
+    let second = put(to, middle, between);
+    let last = put_decimal(to, second, m);
+    put(to, last, after)
+}
+
 fn boot_line(to: &mut [u8], at: usize, pages: u64, free: u32) -> usize
     ensures { λ r. ⌜ Appended (now (to .entry)) at (bootLine pages free) (now (to .exit)) r ⌝ }
 {
-    let word = put(to, at, b"boot ");
-    let number = put_decimal(to, word, pages);
-    let comma = put(to, number, b" pages, ");
-    let left = put_decimal(to, comma, free as u64);
-    put(to, left, b" free\n")
+    two_numbers(
+        to,
+        at,
+        b"boot ",
+        pages,
+        b" pages, ",
+        free as u64,
+        b" free\n",
+    )
 }
 
 fn process_line(to: &mut [u8], at: usize, q: u32, pages: u64, root: u32) -> usize
     ensures { λ r. ⌜ Appended (now (to .entry)) at (processLine q pages root) (now (to .exit)) r ⌝ }
 {
-    let word = put(to, at, b"pid ");
-    let number = put_decimal(to, word, q as u64);
-    let owned = put(to, number, b" pages ");
-    let count = put_decimal(to, owned, pages);
-    let table = put(to, count, b" root ");
-    let page = put_hex(to, table, root as u64);
-    put(to, page, b"\n")
+    let table = two_numbers(to, at, b"pid ", q as u64, b" pages ", pages, b" root ");
+    let end = put_hex(to, table, root as u64);
+    put(to, end, b"\n")
 }
 
 fn refused_line(to: &mut [u8], at: usize, number: u32, place: u32) -> usize
     ensures { λ r. ⌜ Appended (now (to .entry)) at (refusedLine number place) (now (to .exit)) r ⌝ }
 {
-    let word = put(to, at, b"refused ");
-    let which = put_decimal(to, word, number as u64);
-    let record = put(to, which, b" at ");
-    let found = put_decimal(to, record, place as u64);
-    put(to, found, b"\n")
+    two_numbers(
+        to,
+        at,
+        b"refused ",
+        number as u64,
+        b" at ",
+        place as u64,
+        b"\n",
+    )
 }
 
-// The pages of all sections.
-fn section_pages(block: &[u8]) -> u64
-    ensures { λ r. ⌜ (r ≡ sectionPages (now (block .entry))) × (r ≤ 0x20_0000 * sectionCount (now (block .entry))) ⌝ }
+// The kernel's pages: what the users' sections leave of those taken.
+fn kernel_pages(block: &[u8], taken: u32) -> u64
+    ensures { λ r. ⌜ r ≡ taken - userPages (now (block .entry)) (processCount (now (block .entry)) - 1) ⌝ }
 {
-    let count = records::section_count(block);
-    let mut pages: u64 = 0;
-    let mut n: u32 = 0;
-    while n < count {
-        let section = records::read_section(block, n as usize);
-        pages += section.pages as u64;
-        n += 1;
+    let count = records::process_count(block);
+    let mut left = taken as usize;
+    let mut i: u32 = 1;
+    while i < count {
+        left = slices::minus(left, counts::process_pages(block, i + 1) as usize);
+        i += 1;
     }
-    pages
+    left as u64
 }
 
-// 1 for a byte of value q, 0 for another.
-fn is_owner(b: u8, q: u32) -> u64
-    ensures { λ r. ⌜ (r ≡ choose (eqb b q) 1 0) × (r ≤ 1) ⌝ }
+// The pages of process q, where the kernel has `kernel`: a user has those of its sections.
+fn pages_of(block: &[u8], kernel: u64, q: u32) -> u64
+    ensures { λ r. ⌜ r ≡ choose (eqb q 1) kernel (processPages (now (block .entry)) q) ⌝ }
 {
-    if b as u32 == q { 1 } else { 0 }
-}
-
-// How many of the first n bytes are q.
-fn bytes_of(tracker: &[u8], n: u64, q: u32) -> u64
-    ensures { λ r. ⌜ r ≡ bytesOf (now (tracker .entry)) n q ⌝ }
-{
-    let mut count: u64 = 0;
-    let mut k: u64 = 0;
-    while k < n {
-        count += is_owner(slices::byte(tracker, k as usize), q);
-        k += 1;
+    if q == 1 {
+        return kernel;
     }
-    count
+    counts::process_pages(block, q)
 }
 
-// A line for each of the p processes, on RAM of n pages. `tracker` and `list` begin with the page tracker and the process list.
-fn process_lines(to: &mut [u8], at: usize, tracker: &[u8], list: &[u8], n: u64, p: u32) -> usize
-    ensures { λ r. ⌜ Appended (now (to .entry)) at (processLines (now (tracker .entry)) (now (list .entry)) n p) (now (to .exit)) r ⌝ }
+// The page number of process q's root table, where the block boots.
+fn root_page(block: &[u8], flash: usize, start: u32, ram: usize, q: u32) -> u32
+    requires { ⌜ (verdict (now block) flash start ram .number ≡ 0) × (1 ≤ q) × (q ≤ processCount (now block)) ⌝ }
+    ensures { λ r. ⌜ r ≡ physPage (now (block .entry)) (start / 4096) (ram / 4096) (rootTable q) ⌝ }
 {
+    match loader::find_root(block, flash, start, ram, q) {
+        Root::Nowhere => 0,
+        Root::At(page) => page.0,
+    }
+}
+
+// A line for each process, where the block boots and the kernel has `kernel` pages.
+fn process_lines(
+    to: &mut [u8],
+    at: usize,
+    block: &[u8],
+    flash: usize,
+    start: u32,
+    ram: usize,
+    kernel: u64,
+) -> usize
+    requires { ⌜ (verdict (now block) flash start ram .number ≡ 0) × (kernel ≡ pagesOf (now block) (ram / 4096) 1) ⌝ }
+    ensures { λ r. ⌜ Appended (now (to .entry)) at (processLines (now (block .entry)) (start / 4096) (ram / 4096) (processCount (now (block .entry)))) (now (to .exit)) r ⌝ }
+{
+    let count = records::process_count(block);
     let mut end = slices::least(at, to.len());
     let mut i: u32 = 0;
-    while i < p {
-        let root = slices::word(list, 12 * (i as usize)) % 0x40_0000;
-        end = process_line(to, end, i + 1, bytes_of(tracker, n, i + 1), root);
+    while i < count {
+        let q = i + 1;
+        let pages = pages_of(block, kernel, q);
+        let root = root_page(block, flash, start, ram, q);
+        end = process_line(to, end, q, pages, root);
         i += 1;
     }
     end
 }
 
-// The listing of a load that gave this answer and left RAM so. The tracker and the process list are found by the order of
-// pages: the four pages at the top, the sections' pages, the tracker, the process list.
-fn listing(to: &mut [u8], block: &[u8], ram: &[u8], answer: Answer) -> usize
-    ensures { λ r. ⌜ Appended (now (to .entry)) 0 (listingOf (now (block .entry)) (now (ram .entry)) answer) (now (to .exit)) r ⌝ }
-{
-    if answer.number != 0 {
-        return refused_line(to, 0, answer.number, answer.place);
-    }
-    let pages = ram.len() / 4096;
-    let tracker = slices::minus(slices::minus(pages, 5), section_pages(block) as usize);
-    let list = slices::minus(tracker, answer.tracker as usize);
-    let lines = boot_line(to, 0, pages as u64, answer.free);
-    process_lines(
-        to,
-        lines,
-        slices::tail(ram, 4096 * tracker),
-        slices::tail(ram, 4096 * list),
-        pages as u64,
-        records::process_count(block),
-    )
-}
-
 // Loads, and puts the listing at the start of `to`, as much of it as there is room for. Answers the listing's end there.
 pub fn load_listing(block: &[u8], flash: &[u8], ram: &mut [u8], start: u32, to: &mut [u8]) -> usize
     ensures { λ r. ⌜ (now (ram .exit) ≡ ramAfter (now (block .entry)) (now (flash .entry)) start (now (ram .entry)))
-        × Appended (now (to .entry)) 0 (listingOf (now (block .entry)) (now (ram .exit)) (answerOf (now (block .entry)) (length (now (flash .entry))) start (length (now (ram .entry))))) (now (to .exit)) r ⌝ }
+        × Appended (now (to .entry)) 0 (listing (now (block .entry)) (length (now (flash .entry))) start (length (now (ram .entry)))) (now (to .exit)) r ⌝ }
 {
+    let len = ram.len();
     let answer = loader::load(block, flash, ram, start);
-    listing(to, block, ram, answer)
+    if answer.number != 0 {
+        return refused_line(to, 0, answer.number, answer.place);
+    }
+    let lines = boot_line(to, 0, (len / 4096) as u64, answer.free);
+    let kernel = kernel_pages(block, answer.taken);
+    process_lines(to, lines, block, flash.len(), start, len, kernel)
 }

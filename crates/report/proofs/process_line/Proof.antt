@@ -4,38 +4,26 @@ use borrow.Author.Needs.{needs}
 use Rattle.report.proofs.process_line.Statement.{statement}
 use Rattle.report.proofs.process_line.Tie as tie
 
+slice-aggregate-two-numbers : tie.Need-slice-aggregate-two-numbers
+slice-aggregate-two-numbers c = search needs
+
+slice-aggregate-two-numbers-2 : tie.Need-slice-aggregate-two-numbers-2
+slice-aggregate-two-numbers-2 c = search needs
+
+slice-aggregate-two-numbers-3 : tie.Need-slice-aggregate-two-numbers-3
+slice-aggregate-two-numbers-3 c = search needs
+
+two-numbers-requires : tie.Need-two-numbers-requires
+two-numbers-requires c κs = search needs
+
+put-hex-requires : tie.Need-put-hex-requires
+put-hex-requires c κs = search needs
+
 slice-aggregate-put : tie.Need-slice-aggregate-put
 slice-aggregate-put c = search needs
 
 put-requires : tie.Need-put-requires
 put-requires c κs = search needs
-
-put-decimal-requires : tie.Need-put-decimal-requires
-put-decimal-requires c κs = search needs
-
-slice-aggregate-put-2 : tie.Need-slice-aggregate-put-2
-slice-aggregate-put-2 c = search needs
-
-put-requires-2 : tie.Need-put-requires-2
-put-requires-2 c κs = search needs
-
-put-decimal-requires-2 : tie.Need-put-decimal-requires-2
-put-decimal-requires-2 c κs = search needs
-
-slice-aggregate-put-3 : tie.Need-slice-aggregate-put-3
-slice-aggregate-put-3 c = search needs
-
-put-requires-3 : tie.Need-put-requires-3
-put-requires-3 c κs = search needs
-
-put-hex-requires : tie.Need-put-hex-requires
-put-hex-requires c κs = search needs
-
-slice-aggregate-put-4 : tie.Need-slice-aggregate-put-4
-slice-aggregate-put-4 c = search needs
-
-put-requires-4 : tie.Need-put-requires-4
-put-requires-4 c κs = search needs
 
 same-length : tie.Need-same-length
 same-length c = search needs
@@ -44,33 +32,20 @@ returns : tie.Need-returns
 unfolding processLine
 returns c =
     let last = c .before .before in
-    let third = last .before .before .before .before .before in
-    let root = third .before .before .before .before in
-    let second = root .before .before .before .before .before in
-    let pages = second .before .before .before .before in
-    let first = pages .before .before .before .before .before in
-    let word = first .before .before .before .before in
-    appended-then (word .put .ensures)
-    (appended-then (first .put-decimal .ensures)
-    (appended-then (pages .put2 .ensures)
-    (appended-then (second .put-decimal2 .ensures)
-    (appended-then (root .put3 .ensures)
-    (appended-then (third .put-hex .ensures) (last .put4 .ensures))))))
+    let root = last .before .before .before .before .before in
+    let start = root .before .before .before .before in
+    appended-then (start .two-numbers .ensures) (appended-then (root .put-hex .ensures) (last .put .ensures))
 
 pub process-line-spec : {M : Type 1} → statement M
 process-line-spec =
     tie.close
     (tie.spec
+    slice-aggregate-two-numbers
+    slice-aggregate-two-numbers-2
+    slice-aggregate-two-numbers-3
+    two-numbers-requires
+    put-hex-requires
     slice-aggregate-put
     put-requires
-    put-decimal-requires
-    slice-aggregate-put-2
-    put-requires-2
-    put-decimal-requires-2
-    slice-aggregate-put-3
-    put-requires-3
-    put-hex-requires
-    slice-aggregate-put-4
-    put-requires-4
     same-length
     returns)

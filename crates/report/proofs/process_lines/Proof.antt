@@ -1,18 +1,23 @@
-use Prim.Native.Nat.{_-_, _≤_}
 use mathlib.Core.Path.{_≡_}
-use Rattle.report.proofs.Laws.{appended-none, appended-length, lines-none, lines-then}
+use Prim.Native.Nat.{_+_, _-_, _/_, _≤_}
+use Rattle.rules.specs.Block.{processCount}
 use Rattle.report.specs.Text.{Appended}
 use Rattle.report.specs.Listing.{processLines}
+use Rattle.report.proofs.Laws.{appended-none, appended-length, lines-none, lines-next}
+use Rattle.report.proofs.Owned.{pages-owned}
 use native.Mathlib.Omega.{arith}
 use borrow.Author.Needs.{needs}
 use Rattle.report.proofs.process_lines.Statement.{statement}
 use Rattle.report.proofs.process_lines.Tie as tie
 
 abbrev Inv-loop : tie.InvT-loop
-Inv-loop to₀ at tracker list n p end₀ i₀ to end i = (i ≤ p) × Appended to₀ at (processLines tracker list n i) to end
+Inv-loop to₀ at block flash start ram kernel count end₀ i₀ to end i = (i ≤ count) × Appended to₀ at (processLines block (start / 4096) (ram / 4096) i) to end
 
 abbrev μ-loop : tie.MeasureT-loop
-μ-loop to₀ at tracker list n p end₀ i₀ to end i = p - i
+μ-loop to₀ at block flash start ram kernel count end₀ i₀ to end i = count - i
+
+process-count-requires : tie.Need-process-count-requires Inv-loop μ-loop
+process-count-requires c κs = search needs
 
 least-requires : tie.Need-least-requires Inv-loop μ-loop
 least-requires c κs = search needs
@@ -20,23 +25,16 @@ least-requires c κs = search needs
 loop-holds : tie.Need-loop-holds Inv-loop μ-loop
 loop-holds c = (omega arith, rw lines-none (appended-none _ _ _ (c .least .ensures)))
 
-cast-word : tie.Need-cast-word Inv-loop μ-loop
-cast-word c = search needs
+add-q : tie.Need-add-q Inv-loop μ-loop
+add-q c = search needs
 
-mul-word : tie.Need-mul-word Inv-loop μ-loop
-mul-word c = search needs
+pages-of-requires : tie.Need-pages-of-requires Inv-loop μ-loop
+pages-of-requires c κs = search needs
 
-word-requires : tie.Need-word-requires Inv-loop μ-loop
-word-requires c κs = search needs
-
-add-process-line : tie.Need-add-process-line Inv-loop μ-loop
-add-process-line c = search needs
-
-add-bytes-of : tie.Need-add-bytes-of Inv-loop μ-loop
-add-bytes-of c = search needs
-
-bytes-of-requires : tie.Need-bytes-of-requires Inv-loop μ-loop
-bytes-of-requires c κs = search needs
+root-page-requires : tie.Need-root-page-requires Inv-loop μ-loop
+root-page-requires c κs =
+    let counted = c .before .before .before .before in
+    (counted .before .before .before .pre .0, omega arith, omega (arith, c .before .loop-test .taken, counted .process-count .ensures))
 
 process-line-requires : tie.Need-process-line-requires Inv-loop μ-loop
 process-line-requires c κs = search needs
@@ -49,15 +47,21 @@ loop-less c = search needs
 
 loop-again : tie.Need-loop-again Inv-loop μ-loop
 loop-again c =
-    let w = c .before .before .before .before .before in
-    (omega arith, lines-then _ _ _ _ (w .before .before .loop .inv .1) (c .before .before .before .bytes-of .ensures) (w .word .ensures) (c .before .before .process-line .ensures))
+    let root = c .before .before .before .before in
+    let turn = root .before .before .before in
+    let counted = turn .before .before in
+    let start = counted .before .before .before in
+    let more : turn .loop .i + 1 ≤ processCount (start .args .block .now) = omega (arith, root .before .before .loop-test .taken, counted .process-count .ensures) in
+    let owned = pages-owned _ _ _ (start .pre .1) (omega arith) more (root .before .pages-of .ensures) in
+    (omega arith, lines-next _ _ _ _ (turn .loop .inv .1) owned (root .root-page .ensures) (c .before .before .process-line .ensures))
 
 same-length : tie.Need-same-length Inv-loop μ-loop
 same-length c = appended-length (c .before .loop .inv .1)
 
 returns : tie.Need-returns Inv-loop μ-loop
 returns c =
-    let all : c .before .loop .i ≡ c .before .before .before .before .before .before .args .p = omega arith in
+    let counted = c .before .before .before in
+    let all : c .before .loop .i ≡ processCount (counted .before .before .before .args .block .now) = omega (arith, counted .process-count .ensures) in
     rw all at (c .before .loop .inv .1)
 
 pub process-lines-spec : {M : Type 1} → statement M
@@ -66,14 +70,12 @@ process-lines-spec =
     (tie.spec
     Inv-loop
     μ-loop
+    process-count-requires
     least-requires
     loop-holds
-    cast-word
-    mul-word
-    word-requires
-    add-process-line
-    add-bytes-of
-    bytes-of-requires
+    add-q
+    pages-of-requires
+    root-page-requires
     process-line-requires
     add-i
     loop-less
