@@ -1,3 +1,3 @@
 pub mod Verdicts
 pub mod Searches
-pub mod Lengths
+pub mod Needed

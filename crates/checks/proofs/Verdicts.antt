@@ -66,6 +66,5 @@ in-bounds b start len r c =
     let p = any-none _ (any-none _ c 0) in
     record {
       ram = omega arith;
-      some-process = ltb-false _ _ (p 0);
       processes = ltb-false _ _ (p 1);
     }

@@ -24,5 +24,4 @@ refusalAt Regions b flash start len i = choose (regionUnfit b start len i) 11 0
 -- what refusals 1 and 4 leave, as far as later sums need it
 pub record InBounds (b : List ℕ) (len : ℕ) : Type 0 where
   pub ram : len ≤ 0x100_0000
-  pub some-process : 1 ≤ processCount b
   pub processes : processCount b ≤ 16

@@ -1,11 +1,12 @@
 -- What is known where block and flash boot. Of the refusals, demand 2 needs 1, 4 and 12 alone.
-use mathlib.Core.Path.{_≡_}
+use mathlib.Core.Path.{_≡_, sym, ap, _∙_}
 use mathlib.Core.List.{List}
 use mathlib.Core.Bool.{true}
 use Prim.Native.Nat.{ℕ, _+_, _*_, _/_, _%_, _≤_}
 use native.Mathlib.Omega.{arith}
 use lib.ListN.{length}
 use borrow.Author.Tests.{eqb-true, ltb-false, not-false}
+use Rattle.types.specs.declared.Verdict.{Verdict}
 use Rattle.rules.specs.Block.{processCount}
 use Rattle.rules.specs.Order.{pagesNeeded}
 use Rattle.rules.specs.Refusals.{checks, verdict, ramUnfit, outside, countsOutOfBounds, ramTooSmall}
@@ -27,6 +28,14 @@ pub record Boot (b : List ℕ) (start len : ℕ) : Type 0 where
   pub whole : 4096 * (len / 4096) ≡ len
   pub room : Room b (start / 4096) (len / 4096)
 
+-- what the checks have shown before anything is written: of the block and RAM's N pages, and of RAM's place
+pub record Fits (b : List ℕ) (base N : ℕ) : Type 0 where
+  pub some-process : 1 ≤ processCount b
+  pub few-processes : processCount b ≤ 16
+  pub few-pages : N ≤ 4096
+  pub end : base + N ≤ 0x10_0000
+  pub enough : pagesNeeded b N ≤ N
+
 pub from-checks : (b : List ℕ) (flash start len : ℕ) → Every Passes (checks b flash start len) → Boot b start len
 unfolding checks ramUnfit countsOutOfBounds outside ramTooSmall
 from-checks b flash start len ps =
@@ -43,3 +52,18 @@ unfolding boots
 boot b flash start ram e =
     from-checks b (length flash) start (length ram)
     (boots-where-no-cause-holds b (length flash) start (length ram) .0 (eqb-true (verdict b (length flash) start (length ram) .number) 0 e))
+
+few : (b : List ℕ) (flash start len : ℕ) → Every Passes (checks b flash start len) → (processCount b ≤ 16) × (len / 4096 ≤ 4096)
+unfolding checks ramUnfit countsOutOfBounds outside
+few b flash start len ps =
+    (ltb-false _ _ (any-none _ (any-none _ (ps .1 .1 .1 .0) 0) 1), ltb-false _ _ (any-none _ (ps .0) 1))
+
+pub accepted-fits : (b : List ℕ) (flash start len : ℕ) (v : Verdict) → v ≡ verdict b flash start len → v .number ≡ 0
+    → Fits b (start / 4096) (len / 4096) × (4096 * (len / 4096) ≡ len)
+accepted-fits b flash start len v e z =
+    let ps : Every Passes (checks b flash start len) = boots-where-no-cause-holds b flash start len .0 (ap (λ (v : Verdict). v .number) (sym e) ∙ z) in
+    let d : Boot b start len = from-checks b flash start len ps in
+    let f : (processCount b ≤ 16) × (len / 4096 ≤ 4096) = few b flash start len ps in (
+      record { some-process = d .processes; few-processes = f .0; few-pages = f .1; end = d .room .end; enough = d .room .enough },
+      d .whole,
+    )

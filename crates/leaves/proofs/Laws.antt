@@ -16,7 +16,7 @@ use Rattle.laws.specs.Lists.{tab-by, tab-length, tab-get, tab-same}
 use Rattle.laws.specs.Counts.{one, sum-same, gather-length, one-length}
 use Rattle.rules.specs.Block.{sectionsOf, sectionRecord, firstPage, lastPage}
 use Rattle.rules.specs.Order.{leafTable, inRootSlot, hasLeaf, tableUses}
-use Rattle.slices.proofs.Written.{Between}
+use Rattle.stores.proofs.Written.{Between}
 use Rattle.leaves.specs.Marks.{leafMarks, alsoMarked, touched}
 
 -- a loop from `first` up to `last`, or up to the end of n marks, marks what is asked

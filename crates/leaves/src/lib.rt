@@ -47,7 +47,7 @@ fn mark_sections(block: &[u8], q: u32, marks: &mut [u8])
 pub fn leaf_marks(block: &[u8], q: u32, marks: &mut [u8])
     ensures { λ _. ⌜ now (marks .exit) ≡ leafMarks (now (block .entry)) q (length (now (marks .entry))) ⌝ }
 {
-    slices::clear(marks);
+    stores::clear(marks);
     if q == 1 {
         mark(marks, 1023, 1023);
         return;

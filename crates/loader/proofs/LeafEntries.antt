@@ -23,9 +23,10 @@ use Rattle.rules.specs.Entries.{absentEntry, reservedEntry, pageEntry}
 use Rattle.rules.specs.Tables.{entryFor, leafEntry}
 use Rattle.laws.specs.Counts.{sum-le}
 use Rattle.rules.specs.Load.{physPage}
-use Rattle.placement.specs.Places.{At, pagesBefore, processPages, userPages, sectionPlace, trackerPlace, user-pages-next, pages-before-none, pages-before-next, order-count, place-section, place-tracker, place-process-list, place-block-copy, ram-page-at}
+use Rattle.placement.specs.Places.{At, pagesBefore, processPages, userPages, sectionPlace, trackerPlace, user-pages-next, pages-before-none, pages-before-next, place-section, place-tracker, place-process-list, place-block-copy, ram-page-at}
+use Rattle.placement.specs.Room.{needed-parts}
 use Rattle.tables.specs.Filled.{pagesMapped, stackReserved}
-use Rattle.loader.specs.Fits.{Fits}
+use Rattle.demands.specs.Boot.{Fits}
 use Rattle.loader.specs.LeafEntries.{entriesOf}
 
 -- PLACES
@@ -33,20 +34,15 @@ user-pages-le : (b : List ℕ) (m n : ℕ) → m ≤ n → userPages b m ≤ use
 unfolding userPages
 user-pages-le b m n h = sum-le m n _ h
 
--- one process more: the pages so far and its own
-pub users-turn : (b : List ℕ) (n i : ℕ) {pages count : ℕ} → i < n → userPages b n ≤ 4096 → pages ≡ userPages b i → count ≡ processPages b (i + 2)
-    → (pages + count ≡ userPages b (i + 1)) × (pages + count ≤ 4096)
-users-turn b n i l h e f = let s = user-pages-next b i in (omega arith, omega (arith, user-pages-le b (i + 1) n (omega arith)))
-
 pages-before-le : (b : List ℕ) (q m n : ℕ) → m ≤ n → pagesBefore b q m ≤ pagesBefore b q n
 unfolding pagesBefore
 pages-before-le b q m n h = sum-le m n _ h
 
-pub kernel-place : (b : List ℕ) (q n : ℕ) → q ≡ 1 → n ≡ processCount b → sectionPlace b q ≡ 4 + userPages b (n - 1)
+kernel-place : (b : List ℕ) (q n : ℕ) → q ≡ 1 → n ≡ processCount b → sectionPlace b q ≡ 4 + userPages b (n - 1)
 unfolding sectionPlace
 kernel-place b q n e c = rw (choose-yes _ _ (eq-eqb q 1 e), c)
 
-pub user-place : (b : List ℕ) (q : ℕ) → (q ≡ 1 → ⊥) → sectionPlace b q ≡ 4 + userPages b (q - 2)
+user-place : (b : List ℕ) (q : ℕ) → (q ≡ 1 → ⊥) → sectionPlace b q ≡ 4 + userPages b (q - 2)
 unfolding sectionPlace
 user-place b q n = rw (choose-no _ _ (ne-eqb q 1 n))
 
@@ -64,8 +60,11 @@ sections-le b q lo hi = elim (ℕ-discrete q 1) [
 module _ {b : List ℕ} {base N : ℕ} (fits : Fits b base N) where
   -- the tracker, the process list and the block copy have their places
   pub tracker-room : trackerPlace b + trackerPages b N + 2 ≤ N
-  unfolding pagesNeeded uses
-  tracker-room = omega (arith, fits .enough, order-count b (trackerPages b N))
+  tracker-room = omega (arith, fits .enough, needed-parts b N)
+
+  -- the tracker's last virtual page has a number of 32 bits
+  pub tracker-end : (T : ℕ) → T ≡ trackerPages b N → 0xFFF40 + (T - 1) < 0x1_0000_0000
+  tracker-end T e = omega (arith, tracker-room, fits .few-pages)
 
   pub process-room : (q : ℕ) → 1 ≤ q → q ≤ processCount b → sectionPlace b q + 2 ≤ N
   process-room q lo hi = omega (arith, tracker-room, sections-le b q lo hi)

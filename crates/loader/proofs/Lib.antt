@@ -1,7 +1,6 @@
 pub mod Accepted
 pub mod LeafEntries
 pub mod Loading
-pub mod Needed
 pub mod ProcessWords
 pub mod TablePages
 pub mod TrackerBytes

@@ -13,10 +13,13 @@ use Rattle.rules.specs.Contents.{dataByte}
 use Rattle.rules.specs.Load.{pageByte, loaded}
 use Rattle.laws.specs.Lists.{tab-length}
 use Rattle.placement.specs.Places.{trackerPlace, sectionPlace, rootPlace, tablesBefore, section-uses-length, user-uses-length, tables-length, tables-before-none}
+use Rattle.placement.specs.Room.{needed-place}
+use Rattle.places.specs.Capped.{capped}
+use Rattle.places.proofs.Capped.{uncapped}
 use Rattle.writing.specs.Pages.{put}
 use Rattle.writing.specs.Uses.{writeUses, write-length, Wrote, wrote-none, wrote-more, wrote-page}
 use Rattle.writing.specs.Loaded.{content, belowTop, below-top-length, written-is-loaded, sectionContent, allSections, write-sections}
-use Rattle.loader.specs.Fits.{Fits}
+use Rattle.demands.specs.Boot.{Fits}
 use Rattle.loader.specs.Counted.{Counted}
 
 -- the copy of the block
@@ -34,9 +37,12 @@ pub needed-four : (b : List ℕ) (N : ℕ) → 4 ≤ pagesNeeded b N
 unfolding pagesNeeded uses
 needed-four b N = omega (arith, below-top-length b (trackerPages b N))
 
-pub counted : (b : List ℕ) (base N needed : ℕ) → Fits b base N → needed ≡ pagesNeeded b N → Counted b N needed
-counted b base N needed f e = record
-    { some-process = f .some-process; few-processes = f .few-processes; few-pages = f .few-pages; needed-is = e; enough = omega (arith, f .enough) }
+-- the pages needed, as the place after all tables
+pub counted : (b : List ℕ) (base N p needed : ℕ) → Fits b base N → p ≡ processCount b → needed ≡ capped (rootPlace b (trackerPages b N) (p + 1)) → Counted b N needed
+counted b base N p needed f e d =
+    let s : rootPlace b (trackerPages b N) (p + 1) ≡ pagesNeeded b N = rw e (sym (needed-place b N)) in
+    let n : needed ≡ pagesNeeded b N = uncapped _ needed d (omega (arith, f .enough, f .few-pages)) ∙ s in
+    record { some-process = f .some-process; few-processes = f .few-processes; few-pages = f .few-pages; needed-is = n; enough = omega (arith, f .enough) }
 
 pub list-place : (b : List ℕ) (N n₁ n₂ : ℕ) → n₁ ≡ N - 4 - length (allSections b) → n₂ ≡ n₁ - trackerPages b N → n₂ ≡ N - (trackerPlace b + trackerPages b N)
 list-place b N n₁ n₂ e₁ e₂ = omega (arith, all-sections-length b)

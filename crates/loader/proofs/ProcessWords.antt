@@ -8,30 +8,24 @@ use borrow.Rule.Slice.PartMut.{putMid, midOf}
 use Rattle.notation.specs.Lists.{tab}
 use Rattle.notation.specs.Words.{byteOf}
 use Rattle.laws.specs.Lists.{tab-length, tab-get, tab-same}
-use Rattle.laws.specs.Counts.{sum-le}
 use Rattle.rules.specs.Block.{processCount, entryPoint}
 use Rattle.rules.specs.Space.{processList}
-use Rattle.rules.specs.Order.{rootTable, holds, tableUses, uses, trackerPages, pagesNeeded}
+use Rattle.rules.specs.Order.{rootTable, holds, tableUses, trackerPages}
 use Rattle.rules.specs.Contents.{stackPointer, processWord, processListByte, dataByte}
 use Rattle.rules.specs.Load.{physPage, satpWord, pageByte}
-use Rattle.placement.specs.Places.{trackerPlace, tableCount, tablesBefore, rootPlace, tables-before-none, tables-before-next, table-uses-length, order-count, place-root, ram-page-at}
-use Rattle.slices.specs.Writes.{withWord}
-use Rattle.slices.proofs.Written.{Written, wordOf, written-then, written-same, with-word-written, below-bound, chosen-is}
+use Rattle.placement.specs.Places.{trackerPlace, tableCount, rootPlace, tables-before-none, tables-before-next, table-uses-length, place-root, ram-page-at}
+use Rattle.placement.specs.Room.{needed-parts, tables-room}
+use Rattle.stores.specs.Writes.{withWord}
+use Rattle.stores.proofs.Written.{Written, wordOf, written-then, written-same, with-word-written, below-bound, chosen-is}
 use Rattle.writing.specs.Pages.{put, put-same, put-part}
 use Rattle.writing.specs.Loaded.{content}
-use Rattle.loader.specs.Fits.{Fits}
+use Rattle.demands.specs.Boot.{Fits}
 
 -- ROOTS
 module _ {b : List ℕ} {base N : ℕ} (f : Fits b base N) where
   -- the place after the tables of i processes
   abbrev rootAfter : ℕ → ℕ
   rootAfter i = rootPlace b (trackerPages b N) (i + 1)
-
-  roots-fit : (i : ℕ) → i ≤ processCount b → rootAfter i ≤ N
-  unfolding pagesNeeded uses rootPlace tablesBefore
-  roots-fit i h =
-      let z : i + 1 - 1 ≡ i = omega arith in
-      rw z (omega (arith, f .enough, order-count b (trackerPages b N), sum-le i (processCount b) (λ i. tableCount b (i + 1)) h))
 
   pub root-next : (i : ℕ) {place count : ℕ} → place ≡ rootAfter i → count ≡ length (tableUses b (i + 1)) → place + count ≡ rootAfter (i + 1)
   unfolding rootPlace
@@ -41,7 +35,7 @@ module _ {b : List ℕ} {base N : ℕ} (f : Fits b base N) where
       rw (e, c, z, s) (omega (arith, tables-before-next b i, table-uses-length b (i + 1)))
 
   pub tables-fit : (i : ℕ) {place count : ℕ} → i < processCount b → place ≡ rootAfter i → count ≡ length (tableUses b (i + 1)) → place + count ≤ N
-  tables-fit i h e c = omega (arith, root-next i e c, roots-fit (i + 1) (omega arith))
+  tables-fit i h e c = omega (arith, tables-room b N (i + 1) (f .enough) (omega arith) (omega arith), table-uses-length b (i + 1))
 
   pub root-fits : (i : ℕ) {place : ℕ} → i < processCount b → place ≡ rootAfter i → place < N
   unfolding tableCount
@@ -58,12 +52,11 @@ module _ {b : List ℕ} {base N : ℕ} (f : Fits b base N) where
   module _ {left : ℕ} (e : left ≡ N - (trackerPlace b + trackerPages b N)) where
     -- the list's page is inside RAM of n bytes, which has the pages that are left
     pub list-fits : {k n : ℕ} → k ≡ left - 1 → 4096 * left ≤ n → k * 4096 + 4096 ≤ n
-    unfolding pagesNeeded uses
-    list-fits p h = omega (arith, f .enough, order-count b (trackerPages b N))
+    list-fits p h = omega (arith, f .enough, needed-parts b N)
 
     pub first-root : N - left + 2 ≡ rootPlace b (trackerPages b N) 1
-    unfolding pagesNeeded uses rootPlace
-    first-root = omega (arith, f .enough, order-count b (trackerPages b N), tables-before-none b)
+    unfolding rootPlace
+    first-root = omega (arith, f .enough, needed-parts b N, tables-before-none b)
 
 -- WORDS
 -- three words, one after the other

@@ -16,21 +16,22 @@ use borrow.Rule.Slice.PartMut.{putMid, midOf, mid-len}
 use Rattle.notation.specs.Choice.{choose}
 use Rattle.notation.specs.Lists.{tab, gather, sum}
 use Rattle.rules.specs.Block.{processCount}
-use Rattle.rules.specs.Order.{Use, leafTable, hasLeaf, tableUses, uses, trackerPages, pagesNeeded, ramPage}
+use Rattle.rules.specs.Order.{Use, leafTable, hasLeaf, tableUses, trackerPages, ramPage}
 use Rattle.rules.specs.Entries.{pointerEntry, absentEntry}
 use Rattle.rules.specs.Tables.{rootEntry, leafEntry}
 use Rattle.rules.specs.Load.{physPage, tableByte, pageByte}
 use Rattle.laws.specs.Choice.{by-test, choose-yes, choose-no}
 use Rattle.laws.specs.Lists.{tab-length, tab-get, tab-same}
 use Rattle.laws.specs.Counts.{one, one-yes, one-no, sum-same, sum-zero}
-use Rattle.slices.specs.Writes.{withWords}
+use Rattle.stores.specs.Writes.{withWords}
 use Rattle.leaves.specs.Marks.{leafMarks}
 use Rattle.tables.specs.Filled.{marked, markedBelow, leavesPointed}
-use Rattle.placement.specs.Places.{leavesBelow, rootPlace, tableCount, tablesBefore, place-leaf, ram-page-at, order-count, tables-length, tables-before-none}
+use Rattle.placement.specs.Places.{leavesBelow, rootPlace, tableCount, tablesBefore, place-leaf, ram-page-at, tables-length, tables-before-none}
+use Rattle.placement.specs.Room.{tables-room}
 use Rattle.writing.specs.Pages.{put, put-part, put-same}
 use Rattle.writing.specs.Uses.{writeUses, Wrote, wrote-none, wrote-more}
 use Rattle.writing.specs.Loaded.{content}
-use Rattle.loader.specs.Fits.{Fits}
+use Rattle.demands.specs.Boot.{Fits}
 use Rattle.loader.specs.TablePages.{leafUses, LeavesAt}
 
 -- a page of at most 4,096 bytes with 1,024 words stored in it
@@ -186,25 +187,16 @@ two-tables b q = elim (ℕ-discrete q 1) [
   | no e ↦ omega (arith, leaf-below b q 511 (omega arith) (stack-slot b q e))
 ]
 
-pub room : (b : List ℕ) (base N q : ℕ) → Fits b base N → 1 ≤ q → q ≤ processCount b → rootPlace b (trackerPages b N) q + tableCount b q ≤ N
-unfolding rootPlace tablesBefore pagesNeeded uses
-room b base N q f lo hi =
-    let s : q - 1 + 1 ≡ q = omega arith in
-    let t : sum (q - 1) (λ i. tableCount b (i + 1)) + tableCount b (q - 1 + 1) ≤ sum (processCount b) (λ i. tableCount b (i + 1))
-    = sum-at (processCount b) (q - 1) (λ i. tableCount b (i + 1)) (omega arith) in
-    let u : sum (q - 1) (λ i. tableCount b (i + 1)) + tableCount b q ≤ sum (processCount b) (λ i. tableCount b (i + 1)) = rw s at t in
-    omega (arith, f .enough, order-count b (trackerPages b N))
-
 pub room-for-two : (b : List ℕ) (base N q : ℕ) → Fits b base N → 1 ≤ q → q ≤ processCount b → rootPlace b (trackerPages b N) q + 2 ≤ N
 unfolding tableCount
-room-for-two b base N q f lo hi = omega (arith, room b base N q f lo hi, two-tables b q)
+room-for-two b base N q f lo hi = omega (arith, tables-room b N q (f .enough) lo hi, two-tables b q)
 
 leaf-phys : (b : List ℕ) (base N q m left : ℕ) → Fits b base N → 1 ≤ q → q ≤ processCount b → left ≡ N - rootPlace b (trackerPages b N) q
     → m < 1024 → hasLeaf b q m ≡ true → physPage b base N (leafTable q m) ≡ base + left - 2 - leavesBelow b q m
 unfolding physPage tableCount
 leaf-phys b base N q m left f lo hi l h e =
     let p : ramPage b N (leafTable q m) ≡ N - 1 - (rootPlace b (trackerPages b N) q + suc (leavesBelow b q m)) = ram-page-at b N _ _ (place-leaf b _ q m lo hi h e) in
-    rw p (away base N (rootPlace b (trackerPages b N) q) (leavesBelow b q m) left l (omega (arith, room b base N q f lo hi, leaf-below b q m h e)))
+    rw p (away base N (rootPlace b (trackerPages b N) q) (leavesBelow b q m) left l (omega (arith, tables-room b N q (f .enough) lo hi, leaf-below b q m h e)))
   where
     away : (base N p k left : ℕ) → left ≡ N - p → p + k + 2 ≤ N → base + (N - 1 - (p + suc k)) ≡ base + left - 2 - k
     away base N p k left e h = omega arith

@@ -1,5 +1,3 @@
 pub mod Counted
-pub mod Fits
 pub mod LeafEntries
-pub mod Roots
 pub mod TablePages

@@ -8,14 +8,11 @@ ghost use Rattle.rules.specs.Order.{holds, freePages};
 ghost use Rattle.rules.specs.Load.{loaded, answer, ramAfter};
 ghost use Rattle.writing.specs.Pages.{put};
 ghost use Rattle.writing.specs.Loaded.{content};
-ghost use Rattle.loader.specs.Fits.{Fits};
-ghost use Rattle.loader.specs.Roots.{rootFound};
+ghost use Rattle.demands.specs.Boot.{Fits};
 use pages::PageAllocator;
 use types::Answer;
-use types::PhysPage;
 
 mod leaf_entries;
-mod places;
 mod process_list;
 mod table_pages;
 mod tracker;
@@ -41,7 +38,8 @@ fn load_pages(block: &[u8], flash: &[u8], ram: &mut [u8], start: u32) -> u32
 {
     let pages = (ram.len() / 4096) as u32;
     let base = start / 4096;
-    let needed = places::place_after_tables(block, pages, records::process_count(block));
+    // The place after all tables.
+    let needed = places::root_place(block, pages, records::process_count(block) + 1);
     let below_top = PageAllocator { left: pages - 4 };
     let after_sections = sections::load_sections(ram, block, flash, below_top);
     let after_tracker = tracker::load_tracker(ram, block, pages, needed, after_sections);
@@ -68,7 +66,7 @@ pub fn load(block: &[u8], flash: &[u8], ram: &mut [u8], start: u32) -> Answer
         };
     }
     let pages = (ram.len() / 4096) as u32;
-    let tracker = places::tracker_pages(block, pages);
+    let tracker = records::tracker_pages(block, pages) as u32;
     let free = load_pages(block, flash, ram, start);
     Answer {
         number: 0,
@@ -77,30 +75,4 @@ pub fn load(block: &[u8], flash: &[u8], ram: &mut [u8], start: u32) -> Answer
         free,
         tracker,
     }
-}
-
-// Where the root table of a process is.
-pub enum Root {
-    // The block is refused, or has no such process.
-    Nowhere,
-    At(PhysPage),
-}
-
-// The root table of process q, by the order of pages, for an image of `flash` bytes and RAM of `ram` bytes from `start` on.
-pub fn find_root(block: &[u8], flash: usize, start: u32, ram: usize, q: u32) -> Root
-    ensures { λ r. ⌜ r ≡ rootFound (now (block .entry)) flash start ram q ⌝ }
-{
-    let checked = checks::check(block, flash, start, ram);
-    if checked.number != 0 {
-        return Root::Nowhere;
-    }
-    if q == 0 {
-        return Root::Nowhere;
-    }
-    if records::process_count(block) < q {
-        return Root::Nowhere;
-    }
-    let pages = (ram / 4096) as u32;
-    let place = places::place_after_tables(block, pages, q - 1);
-    Root::At(places::page_at(start / 4096, pages, place))
 }

@@ -9,11 +9,11 @@ ghost use Rattle.rules.specs.Space.{processList};
 ghost use Rattle.rules.specs.Order.{holds, trackerPages};
 ghost use Rattle.rules.specs.Contents.{stackPointer, processListByte};
 ghost use Rattle.rules.specs.Load.{satpWord};
-ghost use Rattle.slices.specs.Writes.{withWord};
+ghost use Rattle.stores.specs.Writes.{withWord};
 ghost use Rattle.placement.specs.Places.{trackerPlace, rootPlace};
 ghost use Rattle.writing.specs.Pages.{put};
 ghost use Rattle.writing.specs.Loaded.{content};
-ghost use Rattle.loader.specs.Fits.{Fits};
+ghost use Rattle.demands.specs.Boot.{Fits};
 use pages::PageAllocator;
 use types::PhysPage;
 
@@ -37,9 +37,9 @@ fn put_process(page: &mut [u8], block: &[u8], q: u32, root: PhysPage)
 {
     let process = records::read_process(block, q);
     let at = 12 * (q as usize - 1);
-    slices::put_word(page, at, 0x8000_0000 + 0x40_0000 * q + root.0);
-    slices::put_word(page, at + 4, process.entry_point);
-    slices::put_word(page, at + 8, stack_pointer(q));
+    stores::put_word(page, at, 0x8000_0000 + 0x40_0000 * q + root.0);
+    stores::put_word(page, at + 4, process.entry_point);
+    stores::put_word(page, at + 8, stack_pointer(q));
 }
 
 // The whole list. `first` is the place of the kernel's root table in the order of pages; each root is followed by the leaf
@@ -48,7 +48,7 @@ fn list_processes(page: &mut [u8], block: &[u8], base: u32, pages: u32, first: u
     requires { ⌜ Fits (now block) base pages × (first ≡ rootPlace (now block) (trackerPages (now block) pages) 1) × (192 ≤ length (now page)) ⌝ }
     ensures { λ _. ⌜ now (page .exit) ≡ tab (length (now (page .entry))) (processListByte (now (block .entry)) (satpWord (now (block .entry)) base pages)) ⌝ }
 {
-    slices::clear(page);
+    stores::clear(page);
     let count = records::process_count(block);
     let mut place = first;
     let mut i: u32 = 0;

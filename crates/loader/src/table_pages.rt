@@ -14,7 +14,7 @@ ghost use Rattle.leaves.specs.Marks.{leafMarks};
 ghost use Rattle.writing.specs.Pages.{put};
 ghost use Rattle.writing.specs.Uses.{writeUses};
 ghost use Rattle.writing.specs.Loaded.{content};
-ghost use Rattle.loader.specs.Fits.{Fits};
+ghost use Rattle.demands.specs.Boot.{Fits};
 ghost use Rattle.loader.specs.TablePages.{leafUses, LeavesAt};
 use crate::leaf_entries::leaf_entries;
 use pages::PageAllocator;
@@ -29,7 +29,7 @@ fn store(ram: &mut [u8], k: RamPage, entries: &[u32])
     let from = slices::least(k.0 as usize * 4096, ram.len());
     let to = slices::least(from + 4096, ram.len());
     let page = &mut ram[from..to];
-    slices::words_in(page, entries);
+    stores::words_in(page, entries);
 }
 
 // The root table of process q into RAM page k. Its leaf tables, for the marked root slots, lie from physical page `first`

@@ -11,7 +11,6 @@ ghost use Rattle.writing.specs.Pages.{put};
 ghost use Rattle.writing.specs.Uses.{writeUses};
 ghost use Rattle.writing.specs.Loaded.{content};
 ghost use Rattle.loader.specs.Counted.{Counted};
-use crate::places::tracker_pages;
 use pages::PageAllocator;
 use types::RamPage;
 
@@ -20,14 +19,14 @@ fn track_owners(page: &mut [u8], block: &[u8], pages: u32, needed: u32)
     requires { ⌜ Counted (now block) pages needed ⌝ }
     ensures { λ _. ⌜ now (page .exit) ≡ tab (length (now (page .entry))) (λ k. getD (tracker (now (block .entry)) pages) k 0) ⌝ }
 {
-    slices::clear(page);
+    stores::clear(page);
     pages::fill(page, (pages - needed) as usize, pages as usize, 1);
     let users = records::process_count(block) - 1;
     // Below the four pages at the top: process 2's, then process 3's and so on.
     let mut end = pages - 4;
     let mut i: u32 = 0;
     while i < users {
-        let start = end - counts::process_pages(block, i + 2) as u32;
+        let start = end - places::process_pages(block, i + 2) as u32;
         pages::fill(page, start as usize, end as usize, (i + 2) as u8);
         end = start;
         i += 1;
@@ -43,7 +42,7 @@ fn track_page(page: &mut [u8], block: &[u8], pages: u32, needed: u32, i: u32)
         track_owners(page, block, pages, needed);
         return;
     }
-    slices::clear(page);
+    stores::clear(page);
 }
 
 // Page i of the tracker into RAM page k.
@@ -69,7 +68,7 @@ pub(crate) fn load_tracker(
     ensures { λ r. ⌜ (r .left ≡ from .left - trackerPages (now (block .entry)) pages)
         × ((flash : List ℕ) (base : ℕ) → now (ram .exit) ≡ writeUses (content (now (block .entry)) flash base pages) (now (ram .entry)) (from .left) (tab (trackerPages (now (block .entry)) pages) (λ i. holds (trackerPage i)))) ⌝ }
 {
-    let count = tracker_pages(block, pages);
+    let count = records::tracker_pages(block, pages) as u32;
     let mut next = from;
     let mut i: u32 = 0;
     while i < count {

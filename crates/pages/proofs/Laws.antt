@@ -19,8 +19,8 @@ use Rattle.rules.specs.Block.{address, size, flashOffset}
 use Rattle.rules.specs.Contents.{sectionPageByte}
 use Rattle.records.specs.declared.Section.{Section}
 use Rattle.records.specs.Read.{IsSection}
-use Rattle.slices.specs.Writes.{copied}
-use Rattle.slices.proofs.Written.{Written, chosen-is, copied-written}
+use Rattle.stores.specs.Writes.{copied}
+use Rattle.stores.proofs.Written.{Written, chosen-is, copied-written}
 use Rattle.pages.specs.Filled.{filled}
 
 -- CLEARED, THEN COPIED

@@ -37,7 +37,7 @@ pub fn section_page(page: &mut [u8], block: &[u8], flash: &[u8], n: usize, i: u3
     ensures { λ _. ⌜ now (page .exit) ≡ tab (length (now (page .entry))) (sectionPageByte (now (block .entry)) (now (flash .entry)) n i) ⌝ }
 {
     let section = records::read_section(block, n);
-    slices::clear(page);
+    stores::clear(page);
     if section.no_copy {
         return;
     }
@@ -46,15 +46,15 @@ pub fn section_page(page: &mut [u8], block: &[u8], flash: &[u8], n: usize, i: u3
     let bytes = slices::part(flash, section.flash_offset as usize, section.size as usize);
     // In the first page the copy starts at the offset; in a later one it skips the bytes of the pages before.
     let rest = slices::tail(bytes, slices::minus(first, offset));
-    slices::copy_in(page, slices::minus(offset, first), rest);
+    stores::copy_in(page, slices::minus(offset, first), rest);
 }
 
 // The copy of the block, as much of it as fits, and zero after it.
 pub fn block_page(page: &mut [u8], block: &[u8])
     ensures { λ _. ⌜ now (page .exit) ≡ tab (length (now (page .entry))) (λ k. getD (now (block .entry)) k 0) ⌝ }
 {
-    slices::clear(page);
-    slices::copy_in(page, 0, block);
+    stores::clear(page);
+    stores::copy_in(page, 0, block);
 }
 
 // Every byte at an index from `from` up to and without `to`, as far as there are bytes, becomes value; the others stay.

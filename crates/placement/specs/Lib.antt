@@ -1,2 +1,3 @@
 pub mod Uses
 pub mod Places
+pub mod Room

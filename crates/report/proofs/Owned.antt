@@ -25,9 +25,9 @@ use Rattle.placement.specs.Places.{processPages, userPages, user-pages-none, us
 use Rattle.demands.specs.Demand1.{boots-where-no-cause-holds}
 use Rattle.demands.specs.Boot.{from-checks}
 use Rattle.demands.specs.Counting.{owners-sum}
-use Rattle.loader.specs.declared.Root.{Root}
-use Rattle.loader.specs.declared.Root.the-variants.{Nowhere, At}
-use Rattle.loader.specs.Roots.{isProcess, rootFound}
+use Rattle.roots.specs.declared.Root.{Root}
+use Rattle.roots.specs.declared.Root.the-variants.{Nowhere, At}
+use Rattle.roots.specs.Roots.{isProcess, rootFound}
 
 -- COUNTS
 module _ {A : Type 0} (t : A → Bool) where

@@ -7,7 +7,7 @@ use Rattle.notation.specs.Lists.{gather}
 use Rattle.rules.specs.Block.{processCount}
 use Rattle.rules.specs.Order.{rootTable, pagesOf}
 use Rattle.rules.specs.Load.{physPage, answer}
-use Rattle.report.specs.Text.{bootLine, processLine, refusedLine}
+use Rattle.report.specs.Lines.{bootLine, processLine, refusedLine}
 
 -- a line for each of the first n processes, on RAM of N pages from physical page `base` on: its pages, and its root's page number
 unfoldable pub processLines : List ℕ → ℕ → ℕ → ℕ → List ℕ

@@ -9,16 +9,10 @@ ghost use Rattle.rules.specs.Order.{rootTable, pagesOf};
 ghost use Rattle.rules.specs.Refusals.{verdict};
 ghost use Rattle.rules.specs.Load.{physPage, ramAfter};
 ghost use Rattle.placement.specs.Places.{processPages, userPages};
-ghost use Rattle.report.specs.Text.{Appended, twoNumbers, bootLine, processLine, refusedLine};
+ghost use Rattle.text.specs.Text.{Appended};
+ghost use Rattle.report.specs.Lines.{twoNumbers, bootLine, processLine, refusedLine};
 ghost use Rattle.report.specs.Listing.{processLines, listing};
-use loader::Root;
-use text::put_hex;
-
-mod text;
-
-pub use text::put;
-pub use text::put_decimal;
-pub use text::put_word;
+use roots::Root;
 
 // A text with two numbers in it.
 fn two_numbers(
@@ -32,11 +26,11 @@ fn two_numbers(
 ) -> usize
     ensures { λ r. ⌜ Appended (now (to .entry)) at (twoNumbers (now (before .entry)) n (now (between .entry)) m (now (after .entry))) (now (to .exit)) r ⌝ }
 {
-    let first = put(to, at, before);
-    let middle = put_decimal(to, first, n);
-    let second = put(to, middle, between);
-    let last = put_decimal(to, second, m);
-    put(to, last, after)
+    let first = text::put(to, at, before);
+    let middle = text::put_decimal(to, first, n);
+    let second = text::put(to, middle, between);
+    let last = text::put_decimal(to, second, m);
+    text::put(to, last, after)
 }
 
 fn boot_line(to: &mut [u8], at: usize, pages: u64, free: u32) -> usize
@@ -57,8 +51,8 @@ fn process_line(to: &mut [u8], at: usize, q: u32, pages: u64, root: u32) -> usiz
     ensures { λ r. ⌜ Appended (now (to .entry)) at (processLine q pages root) (now (to .exit)) r ⌝ }
 {
     let table = two_numbers(to, at, b"pid ", q as u64, b" pages ", pages, b" root ");
-    let end = put_hex(to, table, root as u64);
-    put(to, end, b"\n")
+    let end = text::put_hex(to, table, root as u64);
+    text::put(to, end, b"\n")
 }
 
 fn refused_line(to: &mut [u8], at: usize, number: u32, place: u32) -> usize
@@ -83,7 +77,7 @@ fn kernel_pages(block: &[u8], taken: u32) -> u64
     let mut left = taken as usize;
     let mut i: u32 = 1;
     while i < count {
-        left = slices::minus(left, counts::process_pages(block, i + 1) as usize);
+        left = slices::minus(left, places::process_pages(block, i + 1) as usize);
         i += 1;
     }
     left as u64
@@ -96,7 +90,7 @@ fn pages_of(block: &[u8], kernel: u64, q: u32) -> u64
     if q == 1 {
         return kernel;
     }
-    counts::process_pages(block, q)
+    places::process_pages(block, q)
 }
 
 // The page number of process q's root table, where the block boots.
@@ -104,7 +98,7 @@ fn root_page(block: &[u8], flash: usize, start: u32, ram: usize, q: u32) -> u32
     requires { ⌜ (verdict (now block) flash start ram .number ≡ 0) × (1 ≤ q) × (q ≤ processCount (now block)) ⌝ }
     ensures { λ r. ⌜ r ≡ physPage (now (block .entry)) (start / 4096) (ram / 4096) (rootTable q) ⌝ }
 {
-    match loader::find_root(block, flash, start, ram, q) {
+    match roots::find_root(block, flash, start, ram, q) {
         Root::Nowhere => 0,
         Root::At(page) => page.0,
     }

@@ -1,10 +1,8 @@
-// Small total functions on lent slices: each answers for any input, and nothing wraps.
+// Numbers, and bytes and words read from lent slices: each function answers for any input, and nothing wraps.
 ghost use mathlib.Core.Path.{_≡_};
-ghost use Prim.Native.Nat.{_+_, _-_, _*_, _≤_, min};
-ghost use lib.ListN.{length, getD, take, drop};
-ghost use Rattle.notation.specs.Lists.{tab};
+ghost use Prim.Native.Nat.{_+_, _-_, _*_, min};
+ghost use lib.ListN.{getD, take, drop};
 ghost use Rattle.notation.specs.Words.{word};
-ghost use Rattle.slices.specs.Writes.{copied, withWord, withWords};
 
 // The smaller of two numbers.
 pub fn least(a: usize, b: usize) -> usize
@@ -60,65 +58,4 @@ pub fn word(s: &[u8], at: usize) -> u32
         return joined(byte(t, 0), byte(t, 1), byte(t, 2), byte(t, 3));
     }
     joined(t[0], t[1], t[2], t[3])
-}
-
-// Every byte becomes 0.
-pub fn clear(s: &mut [u8])
-    ensures { λ _. ⌜ now (s .exit) ≡ tab (length (now (s .entry))) (λ k. 0) ⌝ }
-{
-    let mut i = 0;
-    while i < s.len() {
-        s[i] = 0;
-        i += 1;
-    }
-}
-
-// Copies `from` to index `at` of `to`, as many bytes as fit; the others stay.
-pub fn copy_in(to: &mut [u8], at: usize, from: &[u8])
-    ensures { λ _. ⌜ now (to .exit) ≡ copied (now (to .entry)) at (now (from .entry)) ⌝ }
-{
-    let n = least(from.len(), minus(to.len(), at));
-    let mut i = 0;
-    while i < n {
-        to[at + i] = from[i];
-        i += 1;
-    }
-}
-
-// Stores a word, little-endian, where there is room for it.
-fn store_word(s: &mut [u8], at: usize, w: u32)
-    requires { ⌜ at + 4 ≤ length (now s) ⌝ }
-    ensures { λ _. ⌜ now (s .exit) ≡ withWord (now (s .entry)) at w ⌝ }
-{
-    s[at] = (w % 256) as u8;
-    s[at + 1] = (w / 256 % 256) as u8;
-    s[at + 2] = (w / 65536 % 256) as u8;
-    s[at + 3] = (w / 16777216 % 256) as u8;
-}
-
-// Stores a word at an index, little-endian; where its four bytes do not all fit nothing changes.
-pub fn put_word(s: &mut [u8], at: usize, w: u32)
-    ensures { λ _. ⌜ now (s .exit) ≡ withWord (now (s .entry)) at w ⌝ }
-{
-    if minus(s.len(), at) < 4 {
-        return;
-    }
-    store_word(s, at, w);
-}
-
-// Stores words one after the other from the start of `to` on, little-endian, as many bytes as fit; the others stay.
-pub fn words_in(to: &mut [u8], words: &[u32])
-    ensures { λ _. ⌜ now (to .exit) ≡ withWords (now (to .entry)) (now (words .entry)) ⌝ }
-{
-    let n = least(words.len(), to.len() / 4);
-    let mut i = 0;
-    while i < n {
-        store_word(to, 4 * i, words[i]);
-        i += 1;
-    }
-    if n < words.len() {
-        let mut last = [0u8; 4];
-        store_word(&mut last, 0, words[n]);
-        copy_in(to, 4 * n, &last);
-    }
 }

@@ -17,7 +17,7 @@ fn print_number(n: u32) {
 
 fn print_word(w: u32) {
     let mut text = [0u8; 10];
-    let n = report::put_word(&mut text, 0, w);
+    let n = text::put_word(&mut text, 0, w);
     print(slices::part(&text, 0, n));
 }
 

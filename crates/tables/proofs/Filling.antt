@@ -13,7 +13,7 @@ use Rattle.notation.specs.Lists.{tab}
 use Rattle.laws.specs.Choice.{choose-no}
 use Rattle.laws.specs.Counts.{sum-none, sum-next}
 use Rattle.laws.specs.Lists.{tab-by}
-use Rattle.slices.proofs.Written.{Written, written-none, written-more, chosen-is}
+use Rattle.stores.proofs.Written.{Written, written-none, written-more, chosen-is}
 use Rattle.rules.specs.Entries.{pointerEntry}
 use Rattle.tables.specs.Filled.{marked, markedBelow, leavesPointed}
 

@@ -15,9 +15,9 @@ use Rattle.rules.specs.Contents.{tracker}
 use Rattle.rules.specs.Load.{satpWord, boots, ramAfter, answer}
 use Rattle.rules.specs.Sees.{sees, seenFrom, processSees}
 use Rattle.rules.specs.Compare.{compared, Agree}
-use Rattle.loader.specs.declared.Root.{Root}
-use Rattle.loader.specs.declared.Root.the-variants.{Nowhere, At}
-use Rattle.loader.specs.Roots.{isProcess}
+use Rattle.roots.specs.declared.Root.{Root}
+use Rattle.roots.specs.declared.Root.the-variants.{Nowhere, At}
+use Rattle.roots.specs.Roots.{isProcess}
 use Rattle.two_boards.specs.declared.Board.{Board}
 use Rattle.two_boards.specs.declared.Boards.{Boards}
 

@@ -1,7 +1,7 @@
 // Demand 3 as two calls: the same block and flash on two RAMs, and what a process sees on both.
 ghost use mathlib.Core.Path.{_≡_};
 ghost use Rattle.two_boards.specs.Promise.{seenAt, OneBoard, TwoBoards};
-use loader::Root;
+use roots::Root;
 use types::Answer;
 use types::View;
 
@@ -37,7 +37,7 @@ pub fn boot_one(
 ) -> Board
     ensures { λ r. ⌜ OneBoard (now (block .entry)) (now (flash .entry)) start (now (ram .entry)) (now (ram .exit)) q address r ⌝ }
 {
-    let root = loader::find_root(block, flash.len(), start, ram.len(), q);
+    let root = roots::find_root(block, flash.len(), start, ram.len(), q);
     let answer = loader::load(block, flash, ram, start);
     let seen = seen_at(root, ram, start, address);
     Board { answer, seen }

@@ -2,7 +2,7 @@ use mathlib.Core.Path.{refl}
 use Prim.Native.Nat.{_≤_, _-_, max}
 use native.Mathlib.Omega.{arith}
 use borrow.Author.Needs.{needs}
-use Rattle.slices.proofs.Written.{Written, written-none, written-more, chosen-is}
+use Rattle.stores.proofs.Written.{Written, written-none, written-more, chosen-is}
 use Rattle.leaves.specs.Marks.{alsoMarked}
 use Rattle.leaves.proofs.Laws.{mark-between}
 use Rattle.leaves.proofs.mark.Statement.{statement}

@@ -1,4 +1,5 @@
-use Rattle.loader.proofs.Accepted.{accepted-fits, tracker-few, free-le, refused-answer, boot-answer}
+use Rattle.demands.specs.Boot.{accepted-fits}
+use Rattle.loader.proofs.Accepted.{tracker-few, free-le, refused-answer, boot-answer}
 use native.Mathlib.Omega.{arith}
 use borrow.Author.Needs.{needs}
 use Rattle.loader.proofs.load.Statement.{statement}
@@ -21,11 +22,13 @@ cast-pages c =
     omega (arith, ok .0 .few-pages)
 
 tracker-pages-requires : tie.Need-tracker-pages-requires
-tracker-pages-requires c κs =
-    let checked = c .before .before in
-    let start = checked .before .before .before .before in
-    let ok = accepted-fits _ _ _ _ _ (checked .check .ensures) (c .if1 .left) in
-    tracker-few _ _ _ (ok .0)
+tracker-pages-requires c κs = search needs
+
+cast-tracker : tie.Need-cast-tracker
+cast-tracker c =
+    let checked = c .before .before .before in
+    let ok = accepted-fits _ _ _ _ _ (checked .check .ensures) (c .before .if1 .left) in
+    omega (arith, tracker-few _ _ _ (ok .0), c .tracker-pages .ensures .0)
 
 load-pages-requires : tie.Need-load-pages-requires
 load-pages-requires c κs =
@@ -34,8 +37,8 @@ load-pages-requires c κs =
     let ok = accepted-fits _ _ _ _ _ (checked .check .ensures) (c .before .before .if1 .left) in
     ok
 
-sub-t14 : tie.Need-sub-t14
-sub-t14 c = free-le _ _ _ (c .before .before .load-pages .ensures .0)
+sub-t15 : tie.Need-sub-t15
+sub-t15 c = free-le _ _ _ (c .before .before .load-pages .ensures .0)
 
 same-length : tie.Need-same-length
 same-length c = search needs
@@ -47,7 +50,7 @@ returns-2 c =
     let ok = accepted-fits _ _ _ _ _ (checked .check .ensures) (c .before .before .before .before .before .if1 .left) in
     let loaded = c .before .before in
     boot-answer _ (start .args .flash .now) _ (start .args .ram .now) _ _ _ _ (checked .check .ensures) (c .before .before .before .before .before .if1 .left)
-    (ok .0) (loaded .load-pages .ensures .0) (loaded .before .before .tracker-pages .ensures) (loaded .load-pages .ensures .1)
+    (ok .0) (loaded .load-pages .ensures .0) (loaded .before .before .tracker-pages .ensures .0) (loaded .load-pages .ensures .1)
 
 pub load-spec : {M : Type 1} → statement M
 load-spec =
@@ -57,7 +60,8 @@ load-spec =
     returns
     cast-pages
     tracker-pages-requires
+    cast-tracker
     load-pages-requires
-    sub-t14
+    sub-t15
     same-length
     returns-2)

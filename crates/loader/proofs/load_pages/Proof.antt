@@ -2,7 +2,6 @@ use mathlib.Core.List.{[]}
 use Prim.Native.Nat.{_/_}
 use lib.ListN.{length}
 use Rattle.loader.proofs.Loading.{needed-four, counted, list-place, tables-place, list-room, pages-end}
-use Rattle.loader.proofs.Needed.{needed-all}
 use native.Mathlib.Omega.{arith}
 use borrow.Author.Needs.{needs}
 use Rattle.loader.proofs.load_pages.Statement.{statement}
@@ -14,10 +13,11 @@ cast-pages c = search needs
 process-count-requires : tie.Need-process-count-requires
 process-count-requires c κs = search needs
 
-place-after-tables-requires : tie.Need-place-after-tables-requires
-place-after-tables-requires c κs =
-    let start = c .before .before .before .before in
-    (start .pre .0 .some-process, start .pre .0 .few-processes, omega (arith, start .pre .0 .enough, start .pre .0 .few-pages), omega (arith, c .process-count .ensures))
+add-root-place : tie.Need-add-root-place
+add-root-place c = search needs
+
+root-place-requires : tie.Need-root-place-requires
+root-place-requires c κs = search needs
 
 sub-t16 : tie.Need-sub-t16
 sub-t16 c =
@@ -30,7 +30,7 @@ load-sections-requires c κs = search needs
 load-tracker-requires : tie.Need-load-tracker-requires
 load-tracker-requires c κs =
     let counting = c .before .before .before .before .before in
-    counted _ _ _ _ (counting .before .before .before .before .before .pre .0) (needed-all _ _ _ _ (counting .before .process-count .ensures) (counting .place-after-tables .ensures))
+    counted _ _ _ _ _ (counting .before .before .before .before .before .pre .0) (counting .before .process-count .ensures) (counting .root-place .ensures)
 
 load-process-list-requires : tie.Need-load-process-list-requires
 load-process-list-requires c κs =
@@ -78,7 +78,8 @@ load-pages-spec =
     (tie.spec
     cast-pages
     process-count-requires
-    place-after-tables-requires
+    add-root-place
+    root-place-requires
     sub-t16
     load-sections-requires
     load-tracker-requires

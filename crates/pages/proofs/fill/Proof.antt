@@ -1,6 +1,6 @@
 use mathlib.Core.Path.{refl}
 use Prim.Native.Nat.{_-_, _≤_, max}
-use Rattle.slices.proofs.Written.{Written, written-none, written-more}
+use Rattle.stores.proofs.Written.{Written, written-none, written-more}
 use Rattle.pages.proofs.Laws.{filled-is}
 use native.Mathlib.Omega.{arith}
 use borrow.Author.Needs.{needs}

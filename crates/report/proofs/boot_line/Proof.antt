@@ -1,4 +1,4 @@
-use Rattle.report.specs.Text.{bootLine}
+use Rattle.report.specs.Lines.{bootLine}
 use borrow.Author.Needs.{needs}
 use Rattle.report.proofs.boot_line.Statement.{statement}
 use Rattle.report.proofs.boot_line.Tie as tie

@@ -1,5 +1,5 @@
-use Rattle.report.proofs.Laws.{appended-then}
-use Rattle.report.specs.Text.{processLine}
+use Rattle.text.proofs.Laws.{appended-then}
+use Rattle.report.specs.Lines.{processLine}
 use borrow.Author.Needs.{needs}
 use Rattle.report.proofs.process_line.Statement.{statement}
 use Rattle.report.proofs.process_line.Tie as tie

@@ -1,9 +1,10 @@
 use mathlib.Core.Path.{_≡_}
 use Prim.Native.Nat.{_+_, _-_, _/_, _≤_}
 use Rattle.rules.specs.Block.{processCount}
-use Rattle.report.specs.Text.{Appended}
+use Rattle.text.specs.Text.{Appended}
 use Rattle.report.specs.Listing.{processLines}
-use Rattle.report.proofs.Laws.{appended-none, appended-length, lines-none, lines-next}
+use Rattle.text.proofs.Laws.{appended-none, appended-length}
+use Rattle.report.proofs.Laws.{lines-none, lines-next}
 use Rattle.report.proofs.Owned.{pages-owned}
 use native.Mathlib.Omega.{arith}
 use borrow.Author.Needs.{needs}

@@ -1,4 +1,4 @@
-use Rattle.report.specs.Text.{refusedLine}
+use Rattle.report.specs.Lines.{refusedLine}
 use borrow.Author.Needs.{needs}
 use Rattle.report.proofs.refused_line.Statement.{statement}
 use Rattle.report.proofs.refused_line.Tie as tie

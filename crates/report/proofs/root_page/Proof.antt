@@ -1,4 +1,4 @@
-use Rattle.loader.specs.declared.Root.the-variants.{Nowhere, At}
+use Rattle.roots.specs.declared.Root.the-variants.{Nowhere, At}
 use Rattle.report.proofs.Owned.{root-is}
 use borrow.Author.Needs.{needs}
 use Rattle.report.proofs.root_page.Statement.{statement}

@@ -1,5 +1,5 @@
-use Rattle.report.proofs.Laws.{appended-then}
-use Rattle.report.specs.Text.{twoNumbers}
+use Rattle.text.proofs.Laws.{appended-then}
+use Rattle.report.specs.Lines.{twoNumbers}
 use borrow.Author.Needs.{needs}
 use Rattle.report.proofs.two_numbers.Statement.{statement}
 use Rattle.report.proofs.two_numbers.Tie as tie

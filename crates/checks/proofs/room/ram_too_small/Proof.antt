@@ -1,14 +1,24 @@
+use Rattle.checks.proofs.Needed.{too-small-is}
 use borrow.Author.Needs.{needs}
-use Rattle.rules.specs.Refusals.{ramTooSmall}
 use Rattle.checks.proofs.room.ram_too_small.Statement.{statement}
 use Rattle.checks.proofs.room.ram_too_small.Tie as tie
 
-pages-needed-requires : tie.Need-pages-needed-requires
-pages-needed-requires c κs = search needs
+cast-pages : tie.Need-cast-pages
+cast-pages c = search needs
+
+process-count-requires : tie.Need-process-count-requires
+process-count-requires c κs = search needs
+
+add-root-place : tie.Need-add-root-place
+add-root-place c = search needs
+
+root-place-requires : tie.Need-root-place-requires
+root-place-requires c κs = search needs
 
 returns : tie.Need-returns
-unfolding ramTooSmall
-returns c = rw (c .pages-needed .ensures)
+returns c = too-small-is _ _ _ _ (c .before .before .before .pre .ram) (c .before .process-count .ensures) (c .root-place .ensures)
 
 pub ram-too-small-spec : {M : Type 1} → statement M
-ram-too-small-spec = tie.close (tie.spec pages-needed-requires returns)
+ram-too-small-spec =
+    tie.close
+    (tie.spec cast-pages process-count-requires add-root-place root-place-requires returns)

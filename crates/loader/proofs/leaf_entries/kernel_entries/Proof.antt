@@ -1,23 +1,27 @@
-use Rattle.loader.proofs.LeafEntries.{tracker-room, tracker-some, kernel-is}
+use Rattle.places.proofs.Capped.{uncapped, page-inside}
+use Rattle.loader.proofs.LeafEntries.{tracker-room, tracker-some, tracker-end, kernel-is}
 use native.Mathlib.Omega.{arith}
 use borrow.Author.Needs.{needs}
 use Rattle.loader.proofs.leaf_entries.kernel_entries.Statement.{statement}
 use Rattle.loader.proofs.leaf_entries.kernel_entries.Tie as tie
 
 tracker-place-requires : tie.Need-tracker-place-requires
-tracker-place-requires c κs = (omega arith, omega arith, omega (arith, tracker-room (c .before .before .pre .0)))
+tracker-place-requires c κs = search needs
 
 tracker-pages-requires : tie.Need-tracker-pages-requires
-tracker-pages-requires c κs = omega (arith, tracker-room (c .before .before .before .pre .0))
+tracker-pages-requires c κs = search needs
+
+cast-count : tie.Need-cast-count
+cast-count c = omega (arith, tracker-room (c .before .before .before .before .pre .0), c .tracker-pages .ensures .0)
 
 page-at-requires : tie.Need-page-at-requires
-page-at-requires c κs = (omega arith, omega (arith, tracker-room (c .before .before .before .before .pre .0)))
+page-at-requires c κs = search needs
 
 add-page-at : tie.Need-add-page-at
 add-page-at c = omega (arith, tracker-room (c .before .before .before .before .before .pre .0))
 
 page-at-requires-2 : tie.Need-page-at-requires-2
-page-at-requires-2 c κs = (omega arith, omega (arith, tracker-room (c .before .before .before .before .before .pre .0)))
+page-at-requires-2 c κs = search needs
 
 add-page-at-2 : tie.Need-add-page-at-2
 add-page-at-2 c = omega (arith, tracker-room (c .before .before .before .before .before .before .pre .0))
@@ -26,7 +30,7 @@ add-page-at-3 : tie.Need-add-page-at-3
 add-page-at-3 c = omega (arith, tracker-room (c .before .before .before .before .before .before .pre .0))
 
 page-at-requires-3 : tie.Need-page-at-requires-3
-page-at-requires-3 c κs = (omega arith, omega (arith, tracker-room (c .before .before .before .before .before .before .pre .0)))
+page-at-requires-3 c κs = search needs
 
 map-sections-requires : tie.Need-map-sections-requires
 map-sections-requires c κs = search needs
@@ -34,19 +38,17 @@ map-sections-requires c κs = search needs
 map-pages-requires : tie.Need-map-pages-requires
 map-pages-requires c κs = search needs
 
-sub-t14 : tie.Need-sub-t14
-sub-t14 c =
+sub-t15 : tie.Need-sub-t15
+sub-t15 c =
     let sections = c .before .before .before .before .before .before in
     let counts = sections .before .before .before .before .before in
     let fits = counts .before .before .before .before .pre .0 in
-    omega (arith, counts .tracker-pages .ensures, tracker-some fits)
+    omega (arith, counts .tracker-pages .ensures .0, tracker-some fits)
 
-add-t15 : tie.Need-add-t15
-add-t15 c =
-    let sections = c .before .before .before .before .before .before in
-    let counts = sections .before .before .before .before .before in
-    let fits = counts .before .before .before .before .pre .0 in
-    omega (arith, counts .tracker-pages .ensures, tracker-room fits)
+add-t16 : tie.Need-add-t16
+add-t16 c =
+    let counts = c .before .before .before .before .before .before .before .before .before .before .before in
+    record { fits = tracker-end (counts .before .before .before .before .pre .0) _ (counts .tracker-pages .ensures .0) }
 
 map-pages-requires-2 : tie.Need-map-pages-requires-2
 map-pages-requires-2 c κs = search needs
@@ -66,9 +68,10 @@ returns c =
     let places = sections .before .before in
     let first = places .before .before in
     let counts = first .before in
-    kernel-is (counts .before .before .before .before .pre .0) _ _ _ _ _ _ _ _ _
-    (counts .before .tracker-place .ensures) (counts .tracker-pages .ensures)
-    (first .page-at .ensures) (places .before .page-at2 .ensures) (places .page-at3 .ensures)
+    let fits = counts .before .before .before .before .pre .0 in
+    kernel-is fits _ _ _ _ _ _ _ _ _
+    (uncapped _ _ (counts .before .tracker-place .ensures) (omega (arith, tracker-room fits, fits .few-pages))) (counts .tracker-pages .ensures .0)
+    (page-inside _ _ _ _ (first .page-at .ensures) (fits .end)) (page-inside _ _ _ _ (places .before .page-at2 .ensures) (fits .end)) (page-inside _ _ _ _ (places .page-at3 .ensures) (fits .end))
     (sections .map-sections .ensures) (copy .map-pages .ensures) (tracker .map-pages2 .ensures) (list .map-pages3 .ensures)
 
 pub kernel-entries-spec : {M : Type 1} → statement M
@@ -77,6 +80,7 @@ kernel-entries-spec =
     (tie.spec
     tracker-place-requires
     tracker-pages-requires
+    cast-count
     page-at-requires
     add-page-at
     page-at-requires-2
@@ -85,8 +89,8 @@ kernel-entries-spec =
     page-at-requires-3
     map-sections-requires
     map-pages-requires
-    sub-t14
-    add-t15
+    sub-t15
+    add-t16
     map-pages-requires-2
     map-pages-requires-3
     same-length

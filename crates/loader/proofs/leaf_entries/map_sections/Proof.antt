@@ -1,6 +1,7 @@
 use mathlib.Core.Path.{_≡_, refl}
 use Prim.Native.Nat.{_-_, _≤_}
 use lib.ListN.{length}
+use Rattle.places.proofs.Capped.{uncapped, page-inside}
 use Rattle.loader.proofs.LeafEntries.{process-room, Mapped, mapped-none, mapped-more, mapped-all}
 use native.Mathlib.Omega.{arith}
 use borrow.Author.Needs.{needs}
@@ -18,14 +19,13 @@ read-process-requires : tie.Need-read-process-requires Inv-loop μ-loop
 read-process-requires c κs = search needs
 
 section-place-requires : tie.Need-section-place-requires Inv-loop μ-loop
-section-place-requires c κs =
-    let pre = c .before .before .before .pre in
-    (pre .1, pre .2, omega arith, omega (arith, process-room (pre .0) _ (pre .1) (pre .2)))
+section-place-requires c κs = search needs
 
 loop-holds : tie.Need-loop-holds Inv-loop μ-loop
 loop-holds c =
     let pre = c .before .before .before .before .pre in
-    (search needs, refl, mapped-none (pre .0) _ _ _ (pre .1) (pre .2) (c .section-place .ensures) (pre .3))
+    let place = uncapped _ _ (c .section-place .ensures) (omega (arith, process-room (pre .0) _ (pre .1) (pre .2), pre .0 .few-pages)) in
+    (search needs, refl, mapped-none (pre .0) _ _ _ (pre .1) (pre .2) place (pre .3))
 
 cast-read-section : tie.Need-cast-read-section Inv-loop μ-loop
 cast-read-section c = search needs
@@ -69,7 +69,7 @@ loop-again c =
       omega arith,
       omega arith,
       mapped-more (loop .loop .inv .2) (pre .0) (pre .1) (pre .2) (process .first-section) (process .sections-of) (read .before .loop-test .taken)
-          (read .read-section .ensures) (call .before .page-at .ensures) (call .map-pages .ensures),
+          (read .read-section .ensures) (page-inside _ _ _ _ (call .before .page-at .ensures) (pre .0 .end)) (call .map-pages .ensures),
     )
 
 same-length : tie.Need-same-length Inv-loop μ-loop

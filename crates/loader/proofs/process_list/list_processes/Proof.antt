@@ -3,7 +3,7 @@ use Prim.Native.Nat.{_+_, _-_, _*_, _≤_}
 use Rattle.rules.specs.Order.{trackerPages}
 use Rattle.rules.specs.Load.{satpWord}
 use Rattle.placement.specs.Places.{rootPlace}
-use Rattle.slices.proofs.Written.{Written, written-none}
+use Rattle.stores.proofs.Written.{Written, written-none}
 use Rattle.loader.proofs.ProcessWords.{listByte, root-next, tables-fit, root-fits, satp-is, process-turn, list-end}
 use native.Mathlib.Omega.{arith}
 use borrow.Author.Needs.{needs}

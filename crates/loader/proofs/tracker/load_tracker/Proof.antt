@@ -16,7 +16,12 @@ abbrev μ-loop : tie.MeasureT-loop
 μ-loop ram₀ block pages needed count next₀ i₀ ram next i = count - i
 
 tracker-pages-requires : tie.Need-tracker-pages-requires Inv-loop μ-loop
-tracker-pages-requires c κs = omega (arith, tracker-fits (c .before .before .pre), c .before .before .pre .few-pages)
+tracker-pages-requires c κs = search needs
+
+cast-count : tie.Need-cast-count Inv-loop μ-loop
+cast-count c =
+    let pre = c .before .before .before .pre in
+    omega (arith, tracker-fits pre, pre .few-pages, c .tracker-pages .ensures .0)
 
 loop-holds : tie.Need-loop-holds Inv-loop μ-loop
 loop-holds c = (search needs, tab-none _ _ _ _)
@@ -28,7 +33,10 @@ load-tracker-page-requires : tie.Need-load-tracker-page-requires Inv-loop μ-loo
 load-tracker-page-requires c κs = search needs
 
 add-i : tie.Need-add-i Inv-loop μ-loop
-add-i c = search needs
+add-i c =
+    let counted = c .before .before .before .before .before .before .before .before in
+    let pre = counted .before .before .before .pre in
+    omega (arith, tracker-fits pre, pre .few-pages, counted .tracker-pages .ensures .0)
 
 loop-less : tie.Need-loop-less Inv-loop μ-loop
 loop-less c = search needs
@@ -43,7 +51,7 @@ same-length : tie.Need-same-length Inv-loop μ-loop
 same-length c = search needs
 
 returns : tie.Need-returns Inv-loop μ-loop
-returns c = tracker-end _ _ _ (c .before .loop .inv .1) (omega (arith, c .before .before .tracker-pages .ensures))
+returns c = tracker-end _ _ _ (c .before .loop .inv .1) (omega (arith, c .before .before .tracker-pages .ensures .0))
 
 pub load-tracker-spec : {M : Type 1} → statement M
 load-tracker-spec =
@@ -52,6 +60,7 @@ load-tracker-spec =
     Inv-loop
     μ-loop
     tracker-pages-requires
+    cast-count
     loop-holds
     allocate-requires
     load-tracker-page-requires

@@ -1,0 +1,53 @@
+use Rattle.demands.specs.Boot.{accepted-fits}
+use Rattle.roots.proofs.RootFound.{root-refused, root-below, root-above, root-at}
+use native.Mathlib.Omega.{arith}
+use borrow.Author.Needs.{needs}
+use Rattle.roots.proofs.find_root.Statement.{statement}
+use Rattle.roots.proofs.find_root.Tie as tie
+
+check-requires : tie.Need-check-requires
+check-requires c κs = search needs
+
+returns : tie.Need-returns
+returns c = root-refused _ _ _ _ _ _ (c .before .before .check .ensures) (c .if1 .taken)
+
+returns-2 : tie.Need-returns-2
+returns-2 c = root-below _ _ _ _ _ (c .if2 .taken)
+
+process-count-requires : tie.Need-process-count-requires
+process-count-requires c κs = search needs
+
+returns-3 : tie.Need-returns-3
+returns-3 c = root-above _ _ _ _ _ _ (c .before .process-count .ensures) (c .if3 .taken)
+
+cast-pages : tie.Need-cast-pages
+cast-pages c =
+    let checked = c .before .before .before .before .before in
+    omega (arith, accepted-fits _ _ _ _ _ (checked .check .ensures) (c .before .before .before .if1 .left) .0 .few-pages)
+
+root-place-requires : tie.Need-root-place-requires
+root-place-requires c κs = search needs
+
+page-at-requires : tie.Need-page-at-requires
+page-at-requires c κs = search needs
+
+returns-4 : tie.Need-returns-4
+returns-4 c =
+    let counted = c .before .before in
+    let checked = counted .before .before .before .before .before in
+    root-at _ _ _ _ _ _ _ _ (checked .check .ensures) (counted .before .before .before .if1 .left) (counted .before .before .if2 .left)
+    (omega (arith, counted .if3 .left, counted .before .process-count .ensures)) (c .before .root-place .ensures) (c .page-at .ensures)
+
+pub find-root-spec : {M : Type 1} → statement M
+find-root-spec =
+    tie.close
+    (tie.spec
+    check-requires
+    returns
+    returns-2
+    process-count-requires
+    returns-3
+    cast-pages
+    root-place-requires
+    page-at-requires
+    returns-4)

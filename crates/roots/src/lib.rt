@@ -1,0 +1,30 @@
+// Where a process's root table is, by the order of pages.
+ghost use mathlib.Core.Path.{_≡_};
+ghost use Rattle.roots.specs.Roots.{rootFound};
+use types::PhysPage;
+
+// Where the root table of a process is.
+pub enum Root {
+    // The block is refused, or has no such process.
+    Nowhere,
+    At(PhysPage),
+}
+
+// The root table of process q, by the order of pages, for an image of `flash` bytes and RAM of `ram` bytes from `start` on.
+pub fn find_root(block: &[u8], flash: usize, start: u32, ram: usize, q: u32) -> Root
+    ensures { λ r. ⌜ r ≡ rootFound (now (block .entry)) flash start ram q ⌝ }
+{
+    let checked = checks::check(block, flash, start, ram);
+    if checked.number != 0 {
+        return Root::Nowhere;
+    }
+    if q == 0 {
+        return Root::Nowhere;
+    }
+    if records::process_count(block) < q {
+        return Root::Nowhere;
+    }
+    let pages = (ram / 4096) as u32;
+    let place = places::root_place(block, pages, q);
+    Root::At(places::page_at(start / 4096, pages, place))
+}
