@@ -11,7 +11,7 @@ use pages::PageAllocator;
 use types::RamPage;
 
 // Page i of section record n into RAM page k.
-pub fn load_page(ram: &mut [u8], k: RamPage, block: &[u8], flash: &[u8], n: usize, i: u32)
+fn load_page(ram: &mut [u8], k: RamPage, block: &[u8], flash: &[u8], n: usize, i: u32)
     ensures { λ _. ⌜ now (ram .exit) ≡ put (now (ram .entry)) (k .0) (sectionPageByte (now (block .entry)) (now (flash .entry)) n i) ⌝ }
 {
     let from = slices::least(k.0 as usize * 4096, ram.len());
@@ -21,7 +21,7 @@ pub fn load_page(ram: &mut [u8], k: RamPage, block: &[u8], flash: &[u8], n: usiz
 }
 
 // Section j, counted from 0, of process q.
-pub fn load_section(
+fn load_section(
     ram: &mut [u8],
     block: &[u8],
     flash: &[u8],
@@ -48,7 +48,7 @@ pub fn load_section(
 }
 
 // All sections of process q.
-pub fn load_process(
+fn load_process(
     ram: &mut [u8],
     block: &[u8],
     flash: &[u8],
