@@ -55,9 +55,9 @@ pub(crate) fn counts_out_of_bounds(block: &[u8]) -> bool
     ensures { λ r. ⌜ r ≡ countsOutOfBounds (now (block .entry)) ⌝ }
 {
     are_outside(
-        records::process_count(block),
-        records::section_count(block),
-        records::region_count(block),
+        counts::process_count(block),
+        counts::section_count(block),
+        counts::region_count(block),
     )
 }
 
@@ -65,9 +65,9 @@ pub(crate) fn counts_out_of_bounds(block: &[u8]) -> bool
 pub(crate) fn layout_not_tight(block: &[u8]) -> bool
     ensures { λ r. ⌜ r ≡ layoutNotTight (now (block .entry)) ⌝ }
 {
-    let sections_at = 32 + 16 * (records::process_count(block) as usize);
-    let regions_at = sections_at + 16 * (records::section_count(block) as usize);
-    let length = regions_at + 8 * (records::region_count(block) as usize);
+    let sections_at = 32 + 16 * (counts::process_count(block) as usize);
+    let regions_at = sections_at + 16 * (counts::section_count(block) as usize);
+    let length = regions_at + 8 * (counts::region_count(block) as usize);
     let process_offset = slices::word(block, 12);
     let section_offset = slices::word(block, 20) as usize;
     let region_offset = slices::word(block, 28) as usize;

@@ -41,10 +41,10 @@ fn record_count(scan: Scan, block: &[u8]) -> u32
     ensures { λ r. ⌜ r ≡ recordCount scan (now (block .entry)) ⌝ }
 {
     match scan {
-        Scan::Processes => records::process_count(block),
-        Scan::Sections => records::section_count(block),
-        Scan::EntryPoints => records::process_count(block),
-        Scan::Regions => records::region_count(block),
+        Scan::Processes => counts::process_count(block),
+        Scan::Sections => counts::section_count(block),
+        Scan::EntryPoints => counts::process_count(block),
+        Scan::Regions => counts::region_count(block),
     }
 }
 

@@ -63,8 +63,8 @@ pub(crate) fn process_unfit(block: &[u8], i: u32) -> bool
         process.sections,
         before,
         before + process.sections as u64,
-        records::section_count(block),
-        i + 1 == records::process_count(block),
+        counts::section_count(block),
+        i + 1 == counts::process_count(block),
     )
 }
 

@@ -74,6 +74,6 @@ pub(crate) fn region_unfit(block: &[u8], start: u32, ram: usize, i: u32) -> bool
         region.end,
         below_previous(block, region.start, i),
         share_address(start as u64, end, region.start as u64, region.end),
-        records::io_pages_of(block, i) + region.pages as u64,
+        tracker_size::io_pages_of(block, i) + region.pages as u64,
     )
 }

@@ -9,5 +9,5 @@ pub(crate) fn ram_too_small(block: &[u8], ram: usize) -> bool
     ensures { λ r. ⌜ r ≡ ramTooSmall (now (block .entry)) ram ⌝ }
 {
     let pages = (ram / 4096) as u32;
-    pages < places::root_place(block, pages, records::process_count(block) + 1)
+    pages < places::root_place(block, pages, counts::process_count(block) + 1)
 }

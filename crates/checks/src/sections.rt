@@ -52,7 +52,7 @@ fn has_section(block: &[u8], n: u32, i: u32) -> bool
 fn owner_of(block: &[u8], n: u32) -> u32
     ensures { λ r. ⌜ r ≡ ownerOf (now (block .entry)) n ⌝ }
 {
-    let mut q = records::process_count(block);
+    let mut q = counts::process_count(block);
     while 0 < q {
         if has_section(block, n, q - 1) {
             return q;
@@ -95,7 +95,7 @@ fn starts_low(block: &[u8], n: u32, q: u32) -> bool
 {
     let process = records::read_process(block, q);
     let section = records::read_section(block, n as usize);
-    let previous = records::read_section(block, slices::minus(n as usize, 1));
+    let previous = records::read_section(block, numbers::minus(n as usize, 1));
     both(
         n != process.first_section,
         section.first_page <= previous.last_page,

@@ -13,7 +13,7 @@ ghost use Rattle.leaves.specs.Marks.{leafMarks, alsoMarked, touched};
 fn mark(marks: &mut [u8], first: u32, last: u32)
     ensures { λ _. ⌜ now (marks .exit) ≡ alsoMarked (λ m. leb first m && leb m last) (now (marks .entry)) ⌝ }
 {
-    let end = slices::least(last as usize + 1, marks.len());
+    let end = numbers::least(last as usize + 1, marks.len());
     let mut m = first as usize;
     while m < end {
         marks[m] = 1;

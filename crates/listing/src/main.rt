@@ -31,7 +31,7 @@ fn complain(line: &[u8]) {
 // Loads, and prints the listing. RAM has 16 pages at most.
 fn list(block: &[u8], flash: &[u8], start: u32, pages: u32) {
     let mut ram = io::large_buffer();
-    let end = slices::least(4096 * (pages as usize), 65536);
+    let end = numbers::least(4096 * (pages as usize), 65536);
     // 16 processes have less text than that.
     let mut text = [0u8; 1024];
     let n = report::load_listing(block, flash, &mut ram[..end], start, &mut text);

@@ -15,8 +15,9 @@ use Rattle.rules.specs.Contents.{stackPointer, processWord, processListByte, da
 use Rattle.rules.specs.Load.{physPage, satpWord, pageByte}
 use Rattle.placement.specs.Places.{trackerPlace, tableCount, rootPlace, tables-before-none, tables-before-next, table-uses-length, place-root, ram-page-at}
 use Rattle.placement.specs.Room.{needed-parts, tables-room}
-use Rattle.stores.specs.Writes.{withWord}
-use Rattle.stores.proofs.Written.{Written, wordOf, written-then, written-same, with-word-written, below-bound, chosen-is}
+use Rattle.word_stores.specs.Words.{withWord}
+use Rattle.stores.proofs.Written.{Written, written-then, written-same, below-bound, chosen-is}
+use Rattle.word_stores.proofs.Words.{wordOf, with-word-written}
 use Rattle.writing.specs.Pages.{put, put-same, put-part}
 use Rattle.writing.specs.Loaded.{content}
 use Rattle.demands.specs.Boot.{Fits}

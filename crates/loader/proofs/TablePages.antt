@@ -23,7 +23,7 @@ use Rattle.rules.specs.Load.{physPage, tableByte, pageByte}
 use Rattle.laws.specs.Choice.{by-test, choose-yes, choose-no}
 use Rattle.laws.specs.Lists.{tab-length, tab-get, tab-same}
 use Rattle.laws.specs.Counts.{one, one-yes, one-no, sum-same, sum-zero}
-use Rattle.stores.specs.Writes.{withWords}
+use Rattle.word_stores.specs.Words.{withWords}
 use Rattle.leaves.specs.Marks.{leafMarks}
 use Rattle.tables.specs.Filled.{marked, markedBelow, leavesPointed}
 use Rattle.placement.specs.Places.{leavesBelow, rootPlace, tableCount, tablesBefore, place-leaf, ram-page-at, tables-length, tables-before-none}

@@ -22,7 +22,7 @@ use Rattle.placement.specs.Places.{processPages, userPages, sectionPlace, track
 use Rattle.writing.specs.Pages.{put}
 use Rattle.writing.specs.Uses.{writeUses, write-same, Wrote, wrote-page}
 use Rattle.writing.specs.Loaded.{content}
-use Rattle.pages.specs.Filled.{filled}
+use Rattle.stores.specs.Writes.{filled}
 use Rattle.stores.proofs.Written.{Written, between, chosen-written, written-same}
 use Rattle.loader.specs.Counted.{Counted}
 

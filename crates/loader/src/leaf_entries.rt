@@ -11,7 +11,7 @@ ghost use Rattle.rules.specs.Tables.{leafEntry};
 ghost use Rattle.rules.specs.Load.{physPage};
 ghost use Rattle.demands.specs.Boot.{Fits};
 ghost use Rattle.loader.specs.LeafEntries.{entriesOf};
-use places::page_at;
+use ram_pages::page_at;
 use places::section_place;
 use places::tracker_place;
 use types::VirtPage;
@@ -67,7 +67,7 @@ fn kernel_entries(entries: &mut [u32], block: &[u8], base: u32, pages: u32)
     ensures { λ _. ⌜ now (entries .exit) ≡ entriesOf (physPage (now (block .entry)) base pages) (kernelPage (now (block .entry)) (trackerPages (now (block .entry)) pages)) 1023 ⌝ }
 {
     let place = tracker_place(block);
-    let count = records::tracker_pages(block, pages) as u32;
+    let count = tracker_size::tracker_pages(block, pages) as u32;
     let tracker = page_at(base, pages, place);
     let list = page_at(base, pages, place + count);
     let copy = page_at(base, pages, place + count + 1);

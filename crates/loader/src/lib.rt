@@ -9,7 +9,7 @@ ghost use Rattle.rules.specs.Load.{loaded, answer, ramAfter};
 ghost use Rattle.writing.specs.Pages.{put};
 ghost use Rattle.writing.specs.Loaded.{content};
 ghost use Rattle.demands.specs.Boot.{Fits};
-use pages::PageAllocator;
+use ram_pages::PageAllocator;
 use types::Answer;
 
 mod leaf_entries;
@@ -23,8 +23,8 @@ fn load_block(ram: &mut [u8], block: &[u8], from: PageAllocator) -> PageAllocato
         × ((flash : List ℕ) (base N : ℕ) → now (ram .exit) ≡ put (now (ram .entry)) (from .left - 1) (content (now (block .entry)) flash base N (holds blockCopy))) ⌝ }
 {
     let got = from.allocate();
-    let start = slices::least(got.page.0 as usize * 4096, ram.len());
-    let end = slices::least(start + 4096, ram.len());
+    let start = numbers::least(got.page.0 as usize * 4096, ram.len());
+    let end = numbers::least(start + 4096, ram.len());
     let page = &mut ram[start..end];
     pages::block_page(page, block);
     got.rest
@@ -39,7 +39,7 @@ fn load_pages(block: &[u8], flash: &[u8], ram: &mut [u8], start: u32) -> u32
     let pages = (ram.len() / 4096) as u32;
     let base = start / 4096;
     // The place after all tables.
-    let needed = places::root_place(block, pages, records::process_count(block) + 1);
+    let needed = places::root_place(block, pages, counts::process_count(block) + 1);
     let below_top = PageAllocator { left: pages - 4 };
     let after_sections = sections::load_sections(ram, block, flash, below_top);
     let after_tracker = tracker::load_tracker(ram, block, pages, needed, after_sections);
@@ -66,7 +66,7 @@ pub fn load(block: &[u8], flash: &[u8], ram: &mut [u8], start: u32) -> Answer
         };
     }
     let pages = (ram.len() / 4096) as u32;
-    let tracker = records::tracker_pages(block, pages) as u32;
+    let tracker = tracker_size::tracker_pages(block, pages) as u32;
     let free = load_pages(block, flash, ram, start);
     Answer {
         number: 0,

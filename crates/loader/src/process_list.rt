@@ -9,12 +9,12 @@ ghost use Rattle.rules.specs.Space.{processList};
 ghost use Rattle.rules.specs.Order.{holds, trackerPages};
 ghost use Rattle.rules.specs.Contents.{stackPointer, processListByte};
 ghost use Rattle.rules.specs.Load.{satpWord};
-ghost use Rattle.stores.specs.Writes.{withWord};
+ghost use Rattle.word_stores.specs.Words.{withWord};
 ghost use Rattle.placement.specs.Places.{trackerPlace, rootPlace};
 ghost use Rattle.writing.specs.Pages.{put};
 ghost use Rattle.writing.specs.Loaded.{content};
 ghost use Rattle.demands.specs.Boot.{Fits};
-use pages::PageAllocator;
+use ram_pages::PageAllocator;
 use types::PhysPage;
 
 // The stack pointer that process q starts with.
@@ -37,9 +37,9 @@ fn put_process(page: &mut [u8], block: &[u8], q: u32, root: PhysPage)
 {
     let process = records::read_process(block, q);
     let at = 12 * (q as usize - 1);
-    stores::put_word(page, at, 0x8000_0000 + 0x40_0000 * q + root.0);
-    stores::put_word(page, at + 4, process.entry_point);
-    stores::put_word(page, at + 8, stack_pointer(q));
+    word_stores::put_word(page, at, 0x8000_0000 + 0x40_0000 * q + root.0);
+    word_stores::put_word(page, at + 4, process.entry_point);
+    word_stores::put_word(page, at + 8, stack_pointer(q));
 }
 
 // The whole list. `first` is the place of the kernel's root table in the order of pages; each root is followed by the leaf
@@ -49,7 +49,7 @@ fn list_processes(page: &mut [u8], block: &[u8], base: u32, pages: u32, first: u
     ensures { λ _. ⌜ now (page .exit) ≡ tab (length (now (page .entry))) (processListByte (now (block .entry)) (satpWord (now (block .entry)) base pages)) ⌝ }
 {
     stores::clear(page);
-    let count = records::process_count(block);
+    let count = counts::process_count(block);
     let mut place = first;
     let mut i: u32 = 0;
     while i < count {

@@ -17,7 +17,7 @@ ghost use Rattle.writing.specs.Loaded.{content};
 ghost use Rattle.demands.specs.Boot.{Fits};
 ghost use Rattle.loader.specs.TablePages.{leafUses, LeavesAt};
 use crate::leaf_entries::leaf_entries;
-use pages::PageAllocator;
+use ram_pages::PageAllocator;
 use types::PhysPage;
 use types::RamPage;
 
@@ -26,10 +26,10 @@ fn store(ram: &mut [u8], k: RamPage, entries: &[u32])
     requires { ⌜ length (now entries) ≡ 1024 ⌝ }
     ensures { λ _. ⌜ now (ram .exit) ≡ put (now (ram .entry)) (k .0) (tableByte (λ i. getD (now (entries .entry)) i 0)) ⌝ }
 {
-    let from = slices::least(k.0 as usize * 4096, ram.len());
-    let to = slices::least(from + 4096, ram.len());
+    let from = numbers::least(k.0 as usize * 4096, ram.len());
+    let to = numbers::least(from + 4096, ram.len());
     let page = &mut ram[from..to];
-    stores::words_in(page, entries);
+    word_stores::words_in(page, entries);
 }
 
 // The root table of process q into RAM page k. Its leaf tables, for the marked root slots, lie from physical page `first`
@@ -157,7 +157,7 @@ pub(crate) fn load_tables(
         × ((flash : List ℕ) → now (ram .exit) ≡ writeUses (content (now (block .entry)) flash base pages) (now (ram .entry)) (from .left) (gather (processCount (now (block .entry))) (λ i. tableUses (now (block .entry)) (i + 1)))) ⌝ }
 {
     let kernel_leaf = PhysPage(base + from.left - 2);
-    let count = records::process_count(block);
+    let count = counts::process_count(block);
     let mut next = from;
     let mut i: u32 = 0;
     while i < count {

@@ -11,7 +11,7 @@ ghost use Rattle.writing.specs.Pages.{put};
 ghost use Rattle.writing.specs.Uses.{writeUses};
 ghost use Rattle.writing.specs.Loaded.{content};
 ghost use Rattle.loader.specs.Counted.{Counted};
-use pages::PageAllocator;
+use ram_pages::PageAllocator;
 use types::RamPage;
 
 // The owners of all RAM pages: the pages taken are the kernel's, but for the section pages of user processes.
@@ -20,14 +20,14 @@ fn track_owners(page: &mut [u8], block: &[u8], pages: u32, needed: u32)
     ensures { λ _. ⌜ now (page .exit) ≡ tab (length (now (page .entry))) (λ k. getD (tracker (now (block .entry)) pages) k 0) ⌝ }
 {
     stores::clear(page);
-    pages::fill(page, (pages - needed) as usize, pages as usize, 1);
-    let users = records::process_count(block) - 1;
+    stores::fill(page, (pages - needed) as usize, pages as usize, 1);
+    let users = counts::process_count(block) - 1;
     // Below the four pages at the top: process 2's, then process 3's and so on.
     let mut end = pages - 4;
     let mut i: u32 = 0;
     while i < users {
         let start = end - places::process_pages(block, i + 2) as u32;
-        pages::fill(page, start as usize, end as usize, (i + 2) as u8);
+        stores::fill(page, start as usize, end as usize, (i + 2) as u8);
         end = start;
         i += 1;
     }
@@ -50,8 +50,8 @@ fn load_tracker_page(ram: &mut [u8], k: RamPage, block: &[u8], pages: u32, neede
     requires { ⌜ Counted (now block) pages needed ⌝ }
     ensures { λ _. ⌜ now (ram .exit) ≡ put (now (ram .entry)) (k .0) (λ o. getD (tracker (now (block .entry)) pages) (4096 * i + o) 0) ⌝ }
 {
-    let from = slices::least(k.0 as usize * 4096, ram.len());
-    let to = slices::least(from + 4096, ram.len());
+    let from = numbers::least(k.0 as usize * 4096, ram.len());
+    let to = numbers::least(from + 4096, ram.len());
     let page = &mut ram[from..to];
     track_page(page, block, pages, needed, i);
 }
@@ -68,7 +68,7 @@ pub(crate) fn load_tracker(
     ensures { λ r. ⌜ (r .left ≡ from .left - trackerPages (now (block .entry)) pages)
         × ((flash : List ℕ) (base : ℕ) → now (ram .exit) ≡ writeUses (content (now (block .entry)) flash base pages) (now (ram .entry)) (from .left) (tab (trackerPages (now (block .entry)) pages) (λ i. holds (trackerPage i)))) ⌝ }
 {
-    let count = records::tracker_pages(block, pages) as u32;
+    let count = tracker_size::tracker_pages(block, pages) as u32;
     let mut next = from;
     let mut i: u32 = 0;
     while i < count {

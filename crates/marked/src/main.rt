@@ -12,7 +12,7 @@ const REGION: u32 = 0xF000_0000;
 fn list(name: &[u8], block: &[u8], flash_bytes: usize, pages: usize) {
     let flash = [0u8; small::FLASH];
     let mut ram = io::large_buffer();
-    let end = slices::least(4096 * slices::least(pages, 16), 65536);
+    let end = numbers::least(4096 * numbers::least(pages, 16), 65536);
     let mut text = [0u8; 1024];
     let n = report::load_listing(
         block,

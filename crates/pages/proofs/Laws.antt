@@ -2,7 +2,7 @@
 use mathlib.Core.Path.{_≡_, sym, _∙_}
 use mathlib.Core.Bool.{true, false, _&&_}
 use mathlib.Core.List.{List}
-use Prim.Native.Nat.{ℕ, suc, _+_, _-_, _*_, _%_, min, max}
+use Prim.Native.Nat.{ℕ, suc, _+_, _-_, _*_, _%_}
 use native.Mathlib.Nat.{sub-zero}
 use native.Mathlib.Decide.{decLt}
 use native.Mathlib.Omega.{arith}
@@ -20,8 +20,7 @@ use Rattle.rules.specs.Contents.{sectionPageByte}
 use Rattle.records.specs.declared.Section.{Section}
 use Rattle.records.specs.Read.{IsSection}
 use Rattle.stores.specs.Writes.{copied}
-use Rattle.stores.proofs.Written.{Written, chosen-is, copied-written}
-use Rattle.pages.specs.Filled.{filled}
+use Rattle.stores.proofs.Written.{copied-written}
 
 -- CLEARED, THEN COPIED
 abbrev cleared : ℕ → List ℕ
@@ -82,12 +81,3 @@ unfolding sectionPageByte
 section-page-is m {b} {n = n} f i s c ep et es eu ea eq =
     eq ∙ rw (ep, eu, et, es, ea, s .address-is, s .size-is, s .flash-offset) (copied-cleared m _ _ ∙ tab-same m _ _ 0 (λ k h.
     page-byte f (flashOffset b n) (size b n) (address b n % 4096) (4096 * i) k ∙ sym (choose-no _ _ (rw (s .no-copy) at c))))
-
--- FILLED
-pub filled-is : {d₀ d : List ℕ} {from i : ℕ} (to v : ℕ) → Written (λ k. v) from i d₀ d → i ≡ max from (min to (length d₀)) → d ≡ filled d₀ from to v
-unfolding filled
-filled-is {d₀} {from = from} to v w e = chosen-is w (record {
-  hit = λ k h l m. rw (le-leb from k l, lt-ltb k to (omega arith));
-  low = λ k h l. rw (lt-leb from k l);
-  high = λ k h l. rw (le-leb from k (omega arith), le-ltb k to (omega arith));
-})

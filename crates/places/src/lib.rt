@@ -8,7 +8,6 @@ ghost use Rattle.rules.specs.Block.{processCount};
 ghost use Rattle.rules.specs.Order.{trackerPages};
 ghost use Rattle.placement.specs.Places.{processPages, userPages, sectionPlace, trackerPlace, tablesBefore, rootPlace};
 ghost use Rattle.places.specs.Capped.{capped};
-use types::PhysPage;
 
 // The section pages of process q: fewer than 2^32 sections of at most 2^21 pages.
 pub fn process_pages(block: &[u8], q: u32) -> u64
@@ -32,7 +31,7 @@ fn capped_sum(a: u32, b: u64) -> u32
     requires { ⌜ b ≤ 0x20_0000_0000_0000 ⌝ }
     ensures { λ r. ⌜ r ≡ capped (a + b) ⌝ }
 {
-    slices::least(a as usize + b as usize, 0x1_0000) as u32
+    numbers::least(a as usize + b as usize, 0x1_0000) as u32
 }
 
 // The section pages of processes 2 to n + 1.
@@ -54,9 +53,9 @@ fn users_before(block: &[u8], q: u32) -> u32
     ensures { λ r. ⌜ (r ≡ choose (eqb q 1) (processCount (now (block .entry)) - 1) (q - 2)) × (r ≤ 0xFFFF_FFFE) ⌝ }
 {
     if q == 1 {
-        return slices::minus(records::process_count(block) as usize, 1) as u32;
+        return numbers::minus(counts::process_count(block) as usize, 1) as u32;
     }
-    slices::minus(q as usize, 2) as u32
+    numbers::minus(q as usize, 2) as u32
 }
 
 // The place of the first section page of process q: the kernel's sections come after those of all user processes.
@@ -91,16 +90,8 @@ fn tables_before(block: &[u8], n: u32) -> u32
 pub fn root_place(block: &[u8], pages: u32, q: u32) -> u32
     ensures { λ r. ⌜ r ≡ capped (rootPlace (now (block .entry)) (trackerPages (now (block .entry)) pages) q) ⌝ }
 {
-    let list = capped_sum(tracker_place(block), records::tracker_pages(block, pages));
-    let before = tables_before(block, slices::minus(q as usize, 1) as u32);
+    let list = capped_sum(tracker_place(block), tracker_size::tracker_pages(block, pages));
+    let before = tables_before(block, numbers::minus(q as usize, 1) as u32);
     capped_sum(list, 2 + before as u64)
 }
 
-// The physical page of the use at a place, in RAM of `pages` pages from physical page `base` on: modulo 2^32, and `base` itself
-// for a place past RAM's end.
-pub fn page_at(base: u32, pages: u32, place: u32) -> PhysPage
-    ensures { λ r. ⌜ r .0 ≡ (base + (pages - 1 - place)) % 0x1_0000_0000 ⌝ }
-{
-    let page = slices::minus(slices::minus(pages as usize, 1), place as usize);
-    PhysPage(((base as usize + page) % 0x1_0000_0000) as u32)
-}

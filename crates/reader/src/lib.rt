@@ -2,50 +2,10 @@
 use types::Entry;
 use types::PhysPage;
 use types::Rights;
-use types::View;
 use types::VirtPage;
 ghost use mathlib.Core.Path.{_≡_};
-ghost use Prim.Native.Nat.{_*_, _%_, _<_};
-ghost use Rattle.notation.specs.Words.{bit};
-ghost use Rattle.rules.specs.Entries.{decode};
+ghost use Prim.Native.Nat.{_*_, _%_};
 ghost use Rattle.rules.specs.Reader.{tableEntry, pageAnswer, leafAnswer, rootAnswer, walk};
-ghost use Rattle.rules.specs.Sees.{shown, seenFrom};
-
-// The bit of weight k.
-fn bit(e: u32, k: u32) -> bool
-    requires { ⌜ 0 < k ⌝ }
-    ensures { λ r. ⌜ r ≡ bit e k ⌝ }
-{
-    e / k % 2 == 1
-}
-
-// A page table entry as it reads. In a valid entry bits 5 to 9 change nothing.
-pub fn decode(e: u32) -> Entry
-    ensures { λ r. ⌜ r ≡ decode e ⌝ }
-{
-    if e % 2 == 0 {
-        if e == 22 {
-            return Entry::Reserved;
-        }
-        return Entry::Absent;
-    }
-    if e / 2 % 8 == 0 {
-        return Entry::Pointer(PhysPage(e / 1024));
-    }
-    let read = bit(e, 2);
-    let write = bit(e, 4);
-    let execute = bit(e, 8);
-    let user = bit(e, 16);
-    Entry::Page(
-        Rights {
-            read,
-            write,
-            execute,
-            user,
-        },
-        PhysPage(e / 1024),
-    )
-}
 
 // Entry i of a table; absent where the table is not wholly inside RAM.
 fn table_entry(ram: &[u8], start: u32, table: PhysPage, i: u32) -> Entry
@@ -59,7 +19,7 @@ fn table_entry(ram: &[u8], start: u32, table: PhysPage, i: u32) -> Entry
     if base + (ram.len() as u64) < at + 4096 {
         return Entry::Absent;
     }
-    decode(slices::word(ram, (at - base + 4 * (i as u64)) as usize))
+    entries::decode(slices::word(ram, (at - base + 4 * (i as u64)) as usize))
 }
 
 // The answer for a page: absent for write without read.
@@ -122,36 +82,3 @@ pub fn walk(ram: &[u8], start: u32, root: PhysPage, address: u32) -> Entry
     walk_page(ram, start, root, VirtPage(address / 4096))
 }
 
-// What a page shows at an address: its rights, and the byte where that is in RAM.
-fn page_shown(ram: &[u8], start: u32, address: u32, t: Rights, page: PhysPage) -> View
-    ensures { λ r. ⌜ r ≡ shown (now (ram .entry)) start address (Entry.Page t page) ⌝ }
-{
-    let at = 4096 * (page.0 as u64) + ((address % 4096) as u64);
-    let base = start as u64;
-    if at < base {
-        return View::Outside(t);
-    }
-    if base + (ram.len() as u64) <= at {
-        return View::Outside(t);
-    }
-    View::Page(t, slices::byte(ram, (at - base) as usize))
-}
-
-// What an answer of the walk shows at an address.
-fn shown(ram: &[u8], start: u32, address: u32, e: Entry) -> View
-    ensures { λ r. ⌜ r ≡ shown (now (ram .entry)) start address e ⌝ }
-{
-    match e {
-        Entry::Absent => View::Absent,
-        Entry::Reserved => View::Reserved,
-        Entry::Pointer(_) => View::Absent,
-        Entry::Page(t, p) => page_shown(ram, start, address, t, p),
-    }
-}
-
-// What is seen at an address by way of a root table: absent, reserved, or a page's rights, with one byte where that is in RAM.
-pub fn seen_from(ram: &[u8], start: u32, root: PhysPage, address: u32) -> View
-    ensures { λ r. ⌜ r ≡ seenFrom (now (ram .entry)) start (root .0) address ⌝ }
-{
-    shown(ram, start, address, walk(ram, start, root, address))
-}

@@ -1,9 +1,8 @@
-// The boot block's counts and records, read from any bytes: what lies past their end counts as 0.
+// The boot block's records, read from any bytes: what lies past their end counts as 0.
 ghost use mathlib.Core.Path.{_≡_};
-ghost use Prim.Native.Nat.{ℕ, _+_, _-_, _*_, _/_, _<_, _≤_};
-ghost use Rattle.notation.specs.Words.{word, bit as bitOf};
-ghost use Rattle.rules.specs.Block.{processCount, sectionCount, regionCount, sectionAt, ioPagesOf};
-ghost use Rattle.rules.specs.Order.{trackerPages};
+ghost use Prim.Native.Nat.{ℕ, _+_, _<_};
+ghost use Rattle.notation.specs.Words.{word};
+ghost use Rattle.rules.specs.Block.{sectionAt};
 ghost use Rattle.records.specs.Read.{IsProcess, IsSection, IsRegion};
 
 // A process record.
@@ -35,46 +34,17 @@ pub struct Region {
     pub end: u64,
 }
 
-// The process count, p.
-pub fn process_count(block: &[u8]) -> u32
-    ensures { λ r. ⌜ r ≡ processCount (now (block .entry)) ⌝ }
-{
-    slices::word(block, 8)
-}
-
-// The section count, s.
-pub fn section_count(block: &[u8]) -> u32
-    ensures { λ r. ⌜ r ≡ sectionCount (now (block .entry)) ⌝ }
-{
-    slices::word(block, 16)
-}
-
-// The region count, r.
-pub fn region_count(block: &[u8]) -> u32
-    ensures { λ r. ⌜ r ≡ regionCount (now (block .entry)) ⌝ }
-{
-    slices::word(block, 24)
-}
-
 // The record of process q, which is record q - 1. There is no process 0: its record would be that of process 1.
 pub fn read_process(block: &[u8], q: u32) -> Process
     ensures { λ r. ⌜ IsProcess (now (block .entry)) q r ⌝ }
 {
-    let at = 32 + 16 * slices::minus(q as usize, 1);
+    let at = 32 + 16 * numbers::minus(q as usize, 1);
     Process {
         entry_point: slices::word(block, at),
         first_section: slices::word(block, at + 4),
         sections: slices::word(block, at + 8),
         kind: slices::word(block, at + 12),
     }
-}
-
-// The bit of weight k.
-fn bit(n: u32, k: u32) -> bool
-    requires { ⌜ 0 < k ⌝ }
-    ensures { λ r. ⌜ r ≡ bitOf n k ⌝ }
-{
-    n / k % 2 == 1
 }
 
 // Where the words of section record n are read. Past the end all words are 0, and 16 n might wrap.
@@ -84,7 +54,7 @@ fn section_offset(block: &[u8], n: usize) -> usize
     if block.len() / 16 < n {
         return block.len();
     }
-    32 + 16 * (process_count(block) as usize) + 16 * n
+    32 + 16 * (counts::process_count(block) as usize) + 16 * n
 }
 
 // Section record n. (Its pages are counted from its address: a size / 4,096 rounded up would miss one.)
@@ -96,16 +66,16 @@ pub fn read_section(block: &[u8], n: usize) -> Section
     let size = slices::word(block, at + 4);
     let flags = slices::word(block, at + 12);
     let first = address / 4096;
-    let last = (slices::minus(address as usize + size as usize, 1) / 4096) as u32;
+    let last = (numbers::minus(address as usize + size as usize, 1) / 4096) as u32;
     let pages = last + 1 - first;
     Section {
         address,
         size,
         flash_offset: slices::word(block, at + 8),
         flags,
-        no_copy: bit(flags, 1),
-        writable: bit(flags, 2),
-        executable: bit(flags, 4),
+        no_copy: numbers::bit(flags, 1),
+        writable: numbers::bit(flags, 2),
+        executable: numbers::bit(flags, 4),
         first_page: first,
         last_page: last,
         pages,
@@ -116,8 +86,8 @@ pub fn read_section(block: &[u8], n: usize) -> Section
 pub fn read_region(block: &[u8], i: u32) -> Region
     ensures { λ r. ⌜ IsRegion (now (block .entry)) i r ⌝ }
 {
-    let sections_at = 32 + 16 * (process_count(block) as usize);
-    let at = sections_at + 16 * (section_count(block) as usize) + 8 * (i as usize);
+    let sections_at = 32 + 16 * (counts::process_count(block) as usize);
+    let at = sections_at + 16 * (counts::section_count(block) as usize) + 8 * (i as usize);
     let start = slices::word(block, at);
     let pages = slices::word(block, at + 4);
     Region {
@@ -127,23 +97,3 @@ pub fn read_region(block: &[u8], i: u32) -> Region
     }
 }
 
-// The I/O pages of the first n regions. Each has fewer than 2^32.
-pub fn io_pages_of(block: &[u8], n: u32) -> u64
-    ensures { λ r. ⌜ (r ≡ ioPagesOf (now (block .entry)) n) × (r ≤ 4294967295 * n) ⌝ }
-{
-    let mut sum: u64 = 0;
-    let mut i: u32 = 0;
-    while i < n {
-        let region = read_region(block, i);
-        sum += region.pages as u64;
-        i += 1;
-    }
-    sum
-}
-
-// The pages of the page tracker, where RAM has `pages` pages: one byte for each RAM and I/O page.
-pub fn tracker_pages(block: &[u8], pages: u32) -> u64
-    ensures { λ r. ⌜ (r ≡ trackerPages (now (block .entry)) pages) × (r ≤ 0x10_0000_0000_0000) ⌝ }
-{
-    (pages as u64 + io_pages_of(block, region_count(block)) + 4095) / 4096
-}

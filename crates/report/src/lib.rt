@@ -73,11 +73,11 @@ fn refused_line(to: &mut [u8], at: usize, number: u32, place: u32) -> usize
 fn kernel_pages(block: &[u8], taken: u32) -> u64
     ensures { λ r. ⌜ r ≡ taken - userPages (now (block .entry)) (processCount (now (block .entry)) - 1) ⌝ }
 {
-    let count = records::process_count(block);
+    let count = counts::process_count(block);
     let mut left = taken as usize;
     let mut i: u32 = 1;
     while i < count {
-        left = slices::minus(left, places::process_pages(block, i + 1) as usize);
+        left = numbers::minus(left, places::process_pages(block, i + 1) as usize);
         i += 1;
     }
     left as u64
@@ -117,8 +117,8 @@ fn process_lines(
     requires { ⌜ (verdict (now block) flash start ram .number ≡ 0) × (kernel ≡ pagesOf (now block) (ram / 4096) 1) ⌝ }
     ensures { λ r. ⌜ Appended (now (to .entry)) at (processLines (now (block .entry)) (start / 4096) (ram / 4096) (processCount (now (block .entry)))) (now (to .exit)) r ⌝ }
 {
-    let count = records::process_count(block);
-    let mut end = slices::least(at, to.len());
+    let count = counts::process_count(block);
+    let mut end = numbers::least(at, to.len());
     let mut i: u32 = 0;
     while i < count {
         let q = i + 1;

@@ -11,10 +11,10 @@ use Rattle.types.specs.declared.Entry.{Entry}
 use Rattle.types.specs.declared.Entry.the-variants.{Page}
 use Rattle.rigpollen.specs.Words.{answerWords, rightsWord, entryNumber, entryWords}
 
-pub answer-told : (f g : Answer) (a₀ a₁ a₂ a₃ a₄ a₅ : List ℕ) → f ≡ g
+pub answer-told : (f : Answer) (a₀ a₁ a₂ a₃ a₄ a₅ : List ℕ)
     → a₁ ≡ set a₀ 0 (f .number) → a₂ ≡ set a₁ 1 (f .place) → a₃ ≡ set a₂ 2 (f .taken) → a₄ ≡ set a₃ 3 (f .free) → a₅ ≡ set a₄ 4 (f .tracker)
-    → a₅ ≡ sets a₀ 0 (answerWords g)
-answer-told f g a₀ a₁ a₂ a₃ a₄ a₅ e e₁ e₂ e₃ e₄ e₅ = rw (← e) (e₅ ∙ rw (e₄, e₃, e₂, e₁))
+    → a₅ ≡ sets a₀ 0 (answerWords f)
+answer-told f a₀ a₁ a₂ a₃ a₄ a₅ e₁ e₂ e₃ e₄ e₅ = e₅ ∙ rw (e₄, e₃, e₂, e₁)
 
 pub page-told : (entry : Entry) (t : Rights) (P : PhysPage) (w : ℕ) (a₀ a₁ a₂ : List ℕ) → entry ≡ Page t P → w ≡ rightsWord t
     → a₁ ≡ set a₀ 0 w → a₂ ≡ set a₁ 1 (P .0) → (2 ≡ entryNumber entry) × (a₂ ≡ sets a₀ 0 (entryWords entry))

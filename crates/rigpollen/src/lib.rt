@@ -1,12 +1,11 @@
 // The entries for C. A slice passes as a pointer and then a length.
 ghost use mathlib.Core.Path.{_≡_};
-ghost use Prim.Native.Nat.{_≤_};
 ghost use lib.ListN.{length, set};
 ghost use lib.Seq.{sets};
-ghost use Rattle.notation.specs.Choice.{choose};
 ghost use Rattle.rules.specs.Load.{answer as answerOf, ramAfter};
 ghost use Rattle.rules.specs.Reader.{walk};
 ghost use Rattle.rigpollen.specs.Words.{answerWords, rightsWord, entryNumber, entryWords};
+use types::Answer;
 use types::Entry;
 use types::PhysPage;
 use types::Rights;
@@ -31,6 +30,17 @@ pub extern "C" fn rigpollen_load(block: &[u8], flash: &[u8], ram: &mut [u8], ram
     answer.number
 }
 
+// The words of a full answer.
+fn tell_answer(full: Answer, words: &mut [u32])
+    ensures { λ _. ⌜ now (words .exit) ≡ sets (now (words .entry)) 0 (answerWords full) ⌝ }
+{
+    put(words, 0, full.number);
+    put(words, 1, full.place);
+    put(words, 2, full.taken);
+    put(words, 3, full.free);
+    put(words, 4, full.tracker);
+}
+
 // The same load. Number, place, pages taken, pages free and tracker pages are put into `answer`, as many as fit; what lies beyond
 // stays.
 #[no_mangle]
@@ -46,30 +56,19 @@ pub extern "C" fn rigpollen_answer(
         × (now (answer .exit) ≡ sets (now (answer .entry)) 0 (answerWords (answerOf (now (block .entry)) (length (now (flash .entry))) «ram_start» (length (now (ram .entry)))))) ⌝ }
 {
     let full = loader::load(block, flash, ram, ram_start);
-    put(answer, 0, full.number);
-    put(answer, 1, full.place);
-    put(answer, 2, full.taken);
-    put(answer, 3, full.free);
-    put(answer, 4, full.tracker);
+    tell_answer(full, answer);
     full.number
-}
-
-// The weight of a right that is given.
-fn weight(given: bool, weight: u32) -> u32
-    ensures { λ r. ⌜ (r ≡ choose given weight 0) × (r ≤ weight) ⌝ }
-{
-    if given { weight } else { 0 }
 }
 
 // A page's rights as one word.
 fn rights_word(t: Rights) -> u32
     ensures { λ r. ⌜ r ≡ rightsWord t ⌝ }
 {
-    weight(t.read, 1) + weight(t.write, 2) + weight(t.execute, 4) + weight(t.user, 8)
+    numbers::flag(t.read, 1) + numbers::flag(t.write, 2) + numbers::flag(t.execute, 4) + numbers::flag(t.user, 8)
 }
 
 // What the walk answered.
-fn tell(entry: Entry, page: &mut [u32]) -> u32
+fn tell_entry(entry: Entry, page: &mut [u32]) -> u32
     ensures { λ r. ⌜ (r ≡ entryNumber entry) × (now (page .exit) ≡ sets (now (page .entry)) 0 (entryWords entry)) ⌝ }
 {
     match entry {
@@ -99,5 +98,5 @@ pub extern "C" fn rigpollen_walk(
         × (now (page .exit) ≡ sets (now (page .entry)) 0 (entryWords (walk (now (ram .entry)) «ram_start» root address))) ⌝ }
 {
     let entry = reader::walk(ram, ram_start, PhysPage(root), address);
-    tell(entry, page)
+    tell_entry(entry, page)
 }

@@ -18,7 +18,8 @@ use Rattle.placement.specs.Places.{tableCount, rootPlace, place-root, ram-page-
 use Rattle.placement.specs.Room.{tables-room}
 use Rattle.demands.specs.Boot.{Fits, accepted-fits}
 use Rattle.places.specs.Capped.{capped}
-use Rattle.places.proofs.Capped.{uncapped, page-inside}
+use Rattle.places.proofs.Capped.{uncapped}
+use Rattle.ram_pages.proofs.PageAt.{page-inside}
 use Rattle.roots.specs.declared.Root.{Root}
 use Rattle.roots.specs.declared.Root.the-variants.{Nowhere, At}
 use Rattle.roots.specs.Roots.{isProcess, rootFound}

@@ -21,10 +21,10 @@ pub fn find_root(block: &[u8], flash: usize, start: u32, ram: usize, q: u32) -> 
     if q == 0 {
         return Root::Nowhere;
     }
-    if records::process_count(block) < q {
+    if counts::process_count(block) < q {
         return Root::Nowhere;
     }
     let pages = (ram / 4096) as u32;
     let place = places::root_place(block, pages, q);
-    Root::At(places::page_at(start / 4096, pages, place))
+    Root::At(ram_pages::page_at(start / 4096, pages, place))
 }

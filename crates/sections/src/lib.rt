@@ -7,15 +7,15 @@ ghost use Rattle.rules.specs.Order.{sectionUses};
 ghost use Rattle.writing.specs.Pages.{put};
 ghost use Rattle.writing.specs.Uses.{writeUses};
 ghost use Rattle.writing.specs.Loaded.{sectionPages, sectionContent, allSections};
-use pages::PageAllocator;
+use ram_pages::PageAllocator;
 use types::RamPage;
 
 // Page i of section record n into RAM page k.
 fn load_page(ram: &mut [u8], k: RamPage, block: &[u8], flash: &[u8], n: usize, i: u32)
     ensures { λ _. ⌜ now (ram .exit) ≡ put (now (ram .entry)) (k .0) (sectionPageByte (now (block .entry)) (now (flash .entry)) n i) ⌝ }
 {
-    let from = slices::least(k.0 as usize * 4096, ram.len());
-    let to = slices::least(from + 4096, ram.len());
+    let from = numbers::least(k.0 as usize * 4096, ram.len());
+    let to = numbers::least(from + 4096, ram.len());
     let page = &mut ram[from..to];
     pages::section_page(page, block, flash, n, i);
 }
@@ -79,7 +79,7 @@ pub fn load_sections(
     ensures { λ r. ⌜ (r .left ≡ from .left - length (allSections (now (block .entry))))
         × (now (ram .exit) ≡ writeUses (sectionContent (now (block .entry)) (now (flash .entry))) (now (ram .entry)) (from .left) (allSections (now (block .entry)))) ⌝ }
 {
-    let users = slices::minus(records::process_count(block) as usize, 1) as u32;
+    let users = numbers::minus(counts::process_count(block) as usize, 1) as u32;
     let mut next = from;
     let mut i: u32 = 0;
     while i < users {

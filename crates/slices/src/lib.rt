@@ -1,22 +1,8 @@
-// Numbers, and bytes and words read from lent slices: each function answers for any input, and nothing wraps.
+// Bytes and words read from lent slices: each function answers for any input.
 ghost use mathlib.Core.Path.{_≡_};
-ghost use Prim.Native.Nat.{_+_, _-_, _*_, min};
+ghost use Prim.Native.Nat.{_+_, _*_};
 ghost use lib.ListN.{getD, take, drop};
 ghost use Rattle.notation.specs.Words.{word};
-
-// The smaller of two numbers.
-pub fn least(a: usize, b: usize) -> usize
-    ensures { λ r. ⌜ r ≡ min a b ⌝ }
-{
-    if a < b { a } else { b }
-}
-
-// The difference, 0 where b is larger.
-pub fn minus(a: usize, b: usize) -> usize
-    ensures { λ r. ⌜ r ≡ a - b ⌝ }
-{
-    if a < b { 0 } else { a - b }
-}
 
 // The byte at an index, 0 past the end.
 pub fn byte(s: &[u8], at: usize) -> u8
@@ -29,7 +15,7 @@ pub fn byte(s: &[u8], at: usize) -> u8
 pub fn tail(s: &[u8], at: usize) -> &[u8]
     ensures { λ r. ⌜ now r ≡ drop at (now (s .entry)) ⌝ }
 {
-    let from = least(at, s.len());
+    let from = numbers::least(at, s.len());
     &s[from..]
 }
 
@@ -38,7 +24,7 @@ pub fn part(s: &[u8], from: usize, n: usize) -> &[u8]
     ensures { λ r. ⌜ now r ≡ take n (drop from (now (s .entry))) ⌝ }
 {
     let t = tail(s, from);
-    let m = least(n, t.len());
+    let m = numbers::least(n, t.len());
     &t[..m]
 }
 

@@ -44,7 +44,7 @@ pub fn board(entry_point: u32, section_b: u32, region: u32) -> [u8; 120]
         2,
     ];
     let mut block = [0u8; 120];
-    stores::words_in(&mut block, &words);
+    word_stores::words_in(&mut block, &words);
     block
 }
 

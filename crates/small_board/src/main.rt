@@ -15,10 +15,27 @@ fn print_number(n: u32) {
     io::print_decimal(STDOUT_FILENO, n as u64);
 }
 
+// A hexadecimal digit, with a capital letter.
+fn digit(n: u32) -> u8 {
+    let d = (n % 16) as u8;
+    if d < 10 { 48 + d } else { 55 + d }
+}
+
+// A word as `0x` and eight hexadecimal digits.
 fn print_word(w: u32) {
-    let mut text = [0u8; 10];
-    let n = text::put_word(&mut text, 0, w);
-    print(slices::part(&text, 0, n));
+    let text = [
+        b'0',
+        b'x',
+        digit(w / 0x1000_0000),
+        digit(w / 0x100_0000),
+        digit(w / 0x10_0000),
+        digit(w / 0x1_0000),
+        digit(w / 0x1000),
+        digit(w / 0x100),
+        digit(w / 0x10),
+        digit(w),
+    ];
+    print(&text);
 }
 
 // The RAM page at a physical page.
@@ -53,7 +70,7 @@ fn page_at(ram: &[u8], root: PhysPage, address: u32) -> PhysPage {
 
 // The leaf table that a root table points to in a slot; 0 where there is none.
 fn leaf_at(ram: &[u8], root: PhysPage, slot: u32) -> PhysPage {
-    let entry = reader::decode(word_of(ram, root, slot));
+    let entry = entries::decode(word_of(ram, root, slot));
     match entry {
         Entry::Pointer(page) => page,
         Entry::Page(_, _) => PhysPage(0),
@@ -109,7 +126,7 @@ fn print_free(ram: &[u8], root: PhysPage) {
 // `page 2 entry 16: 0x10002C1B`; nothing where the entry is absent.
 fn print_entry(ram: &[u8], table: PhysPage, i: u32) {
     let word = word_of(ram, table, i);
-    let entry = reader::decode(word);
+    let entry = entries::decode(word);
     if let Entry::Absent = entry {
         return;
     }

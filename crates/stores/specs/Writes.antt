@@ -1,21 +1,16 @@
 -- What a list holds after a write: it keeps its length, and index k has what the rule says.
 use mathlib.Core.Bool.{_&&_}
 use mathlib.Core.List.{List}
-use Prim.Native.Nat.{ℕ, _+_, _-_, _*_, _/_, _%_}
+use Prim.Native.Nat.{ℕ, _+_, _-_}
 use lib.ListN.{length, getD}
 use lib.Dec.{leb, ltb}
 use Rattle.notation.specs.Choice.{choose}
 use Rattle.notation.specs.Lists.{tab}
-use Rattle.notation.specs.Words.{byteOf}
 
 -- d with s from index `at` on, as much of s as d has room for
 unfoldable pub copied : List ℕ → ℕ → List ℕ → List ℕ
 copied d at s = tab (length d) (λ k. choose (leb at k && ltb k (at + length s)) (getD s (k - at) 0) (getD d k 0))
 
--- d with the word w at index `at`, little-endian; d itself where there is no room for all four bytes
-unfoldable pub withWord : List ℕ → ℕ → ℕ → List ℕ
-withWord d at w = tab (length d) (λ k. choose (leb (at + 4) (length d) && (leb at k && ltb k (at + 4))) (byteOf w (k - at)) (getD d k 0))
-
--- d with the words ws from its start on, little-endian, as many bytes of them as d has room for
-unfoldable pub withWords : List ℕ → List ℕ → List ℕ
-withWords d ws = tab (length d) (λ k. choose (ltb k (4 * length ws)) (byteOf (getD ws (k / 4) 0) (k % 4)) (getD d k 0))
+-- d with v at each index from `from` up to and without `to`
+unfoldable pub filled : List ℕ → ℕ → ℕ → ℕ → List ℕ
+filled d from to v = tab (length d) (λ k. choose (leb from k && ltb k to) v (getD d k 0))

@@ -1,9 +1,8 @@
-// Bytes and words stored in lent slices: each function answers for any input, and nothing past a slice's end is written.
+// Bytes stored in lent slices: each function answers for any input, and nothing past a slice's end is written.
 ghost use mathlib.Core.Path.{_≡_};
-ghost use Prim.Native.Nat.{_+_, _≤_};
 ghost use lib.ListN.{length};
 ghost use Rattle.notation.specs.Lists.{tab};
-ghost use Rattle.stores.specs.Writes.{copied, withWord, withWords};
+ghost use Rattle.stores.specs.Writes.{copied, filled};
 
 // Every byte becomes 0.
 pub fn clear(s: &mut [u8])
@@ -20,7 +19,7 @@ pub fn clear(s: &mut [u8])
 pub fn copy_in(to: &mut [u8], at: usize, from: &[u8])
     ensures { λ _. ⌜ now (to .exit) ≡ copied (now (to .entry)) at (now (from .entry)) ⌝ }
 {
-    let n = slices::least(from.len(), slices::minus(to.len(), at));
+    let n = numbers::least(from.len(), numbers::minus(to.len(), at));
     let mut i = 0;
     while i < n {
         to[at + i] = from[i];
@@ -28,40 +27,14 @@ pub fn copy_in(to: &mut [u8], at: usize, from: &[u8])
     }
 }
 
-// Stores a word, little-endian, where there is room for it.
-fn store_word(s: &mut [u8], at: usize, w: u32)
-    requires { ⌜ at + 4 ≤ length (now s) ⌝ }
-    ensures { λ _. ⌜ now (s .exit) ≡ withWord (now (s .entry)) at w ⌝ }
+// Every byte at an index from `from` up to and without `to`, as far as there are bytes, becomes value; the others stay.
+pub fn fill(bytes: &mut [u8], from: usize, to: usize, value: u8)
+    ensures { λ _. ⌜ now (bytes .exit) ≡ filled (now (bytes .entry)) from to value ⌝ }
 {
-    s[at] = (w % 256) as u8;
-    s[at + 1] = (w / 256 % 256) as u8;
-    s[at + 2] = (w / 65536 % 256) as u8;
-    s[at + 3] = (w / 16777216 % 256) as u8;
-}
-
-// Stores a word at an index, little-endian; where its four bytes do not all fit nothing changes.
-pub fn put_word(s: &mut [u8], at: usize, w: u32)
-    ensures { λ _. ⌜ now (s .exit) ≡ withWord (now (s .entry)) at w ⌝ }
-{
-    if slices::minus(s.len(), at) < 4 {
-        return;
-    }
-    store_word(s, at, w);
-}
-
-// Stores words one after the other from the start of `to` on, little-endian, as many bytes as fit; the others stay.
-pub fn words_in(to: &mut [u8], words: &[u32])
-    ensures { λ _. ⌜ now (to .exit) ≡ withWords (now (to .entry)) (now (words .entry)) ⌝ }
-{
-    let n = slices::least(words.len(), to.len() / 4);
-    let mut i = 0;
-    while i < n {
-        store_word(to, 4 * i, words[i]);
+    let end = numbers::least(to, bytes.len());
+    let mut i = from;
+    while i < end {
+        bytes[i] = value;
         i += 1;
-    }
-    if n < words.len() {
-        let mut last = [0u8; 4];
-        store_word(&mut last, 0, words[n]);
-        copy_in(to, 4 * n, &last);
     }
 }

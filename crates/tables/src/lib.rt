@@ -1,34 +1,13 @@
-// Page table entries, and writing them into a lent table. A table may have any length; root slot m's leaf table has the
-// entries of virtual pages 1,024 m on. An entry has 22 bits of page number, so a number is taken modulo 0x400000.
+// Page table entries written into a lent table. A table may have any length; root slot m's leaf table has the entries of
+// virtual pages 1,024 m on.
 ghost use mathlib.Core.Path.{_≡_};
-ghost use Prim.Native.Nat.{_%_, _≤_};
+ghost use Prim.Native.Nat.{_%_};
 ghost use lib.ListN.{set};
 ghost use Rattle.notation.specs.Choice.{choose};
-ghost use Rattle.rules.specs.Entries.{pointerEntry, pageEntry};
+ghost use Rattle.rules.specs.Entries.{pointerEntry};
 ghost use Rattle.tables.specs.Filled.{pagesMapped, stackReserved, leavesPointed};
 use types::PhysPage;
 use types::VirtPage;
-
-// The entry of a root table that points to the leaf table at `page`.
-fn pointer_entry(page: PhysPage) -> u32
-    ensures { λ r. ⌜ r ≡ pointerEntry (page .0 % 0x40_0000) ⌝ }
-{
-    1024 * (page.0 % 0x40_0000) + 1
-}
-
-// The weight of a flag that is set.
-fn flag(set: bool, weight: u32) -> u32
-    ensures { λ r. ⌜ (r ≡ choose set weight 0) × (r ≤ weight) ⌝ }
-{
-    if set { weight } else { 0 }
-}
-
-// The entry of a leaf table for the readable page `page`, with these rights.
-fn page_entry(page: PhysPage, write: bool, execute: bool, user: bool) -> u32
-    ensures { λ r. ⌜ r ≡ pageEntry (page .0 % 0x40_0000) write execute user ⌝ }
-{
-    1024 * (page.0 % 0x40_0000) + (3 + flag(write, 4) + flag(execute, 8) + flag(user, 16))
-}
 
 // Maps the virtual pages `from` to `to` that lie in the leaf table for root slot `slot`: `from` to physical page `first`,
 // each next one to the next lower page, or to page 0 once they run out.
@@ -46,12 +25,12 @@ pub fn map_pages(
 {
     let base = 1024 * (slot as usize);
     let start = from.0 as usize;
-    let past = slices::minus(to.0 as usize + 1, base);
-    let end = slices::least(past, entries.len());
-    let mut i = slices::minus(start, base);
+    let past = numbers::minus(to.0 as usize + 1, base);
+    let end = numbers::least(past, entries.len());
+    let mut i = numbers::minus(start, base);
     while i < end {
-        let page = slices::minus(first.0 as usize, base + i - start) as u32;
-        entries[i] = page_entry(PhysPage(page), write, execute, user);
+        let page = numbers::minus(first.0 as usize, base + i - start) as u32;
+        entries[i] = entries::page_entry(PhysPage(page), write, execute, user);
         i += 1;
     }
 }
@@ -62,8 +41,8 @@ pub fn reserve_stack(entries: &mut [u32], slot: u32)
     ensures { λ _. ⌜ now (entries .exit) ≡ stackReserved (now (entries .entry)) slot ⌝ }
 {
     let base = 1024 * (slot as usize);
-    let end = slices::least(slices::minus(0x8_0000, base), entries.len());
-    let mut i = slices::minus(0x7_FFFC, base);
+    let end = numbers::least(numbers::minus(0x8_0000, base), entries.len());
+    let mut i = numbers::minus(0x7_FFFC, base);
     while i < end {
         entries[i] = 22;
         i += 1;
@@ -74,7 +53,7 @@ pub fn reserve_stack(entries: &mut [u32], slot: u32)
 fn pointer_or(marked: bool, page: PhysPage, old: u32) -> u32
     ensures { λ r. ⌜ r ≡ choose marked (pointerEntry (page .0 % 0x40_0000)) old ⌝ }
 {
-    if marked { pointer_entry(page) } else { old }
+    if marked { entries::pointer_entry(page) } else { old }
 }
 
 // Points a root table's marked slots (mark not 0) to their leaf tables; the other slots keep their entry. The first
@@ -82,14 +61,14 @@ fn pointer_or(marked: bool, page: PhysPage, old: u32) -> u32
 pub fn point_to_leaves(entries: &mut [u32], marks: &[u8], first: PhysPage)
     ensures { λ _. ⌜ now (entries .exit) ≡ leavesPointed (now (entries .entry)) (now (marks .entry)) (first .0) ⌝ }
 {
-    let n = slices::least(entries.len(), marks.len());
+    let n = numbers::least(entries.len(), marks.len());
     let mut pointed: usize = 0;
     let mut m = 0;
     while m < n {
-        let page = slices::minus(first.0 as usize, pointed) as u32;
+        let page = numbers::minus(first.0 as usize, pointed) as u32;
         let marked = 0 < marks[m];
         entries[m] = pointer_or(marked, PhysPage(page), entries[m]);
-        pointed += flag(marked, 1) as usize;
+        pointed += numbers::flag(marked, 1) as usize;
         m += 1;
     }
 }
@@ -100,6 +79,6 @@ pub fn point_to_kernel(entries: &mut [u32], leaf: PhysPage)
     ensures { λ _. ⌜ now (entries .exit) ≡ set (now (entries .entry)) 1023 (pointerEntry (leaf .0 % 0x40_0000)) ⌝ }
 {
     if 1023 < entries.len() {
-        entries[1023] = pointer_entry(leaf);
+        entries[1023] = entries::pointer_entry(leaf);
     }
 }

@@ -1,11 +1,10 @@
 -- Text in a lent buffer, and numbers as text.
 use mathlib.Core.Path.{_≡_}
-use mathlib.Core.List.{List, [], _∷_}
-use Prim.Native.Nat.{ℕ, _+_, _/_, _%_, _^_, min}
+use mathlib.Core.List.{List}
+use Prim.Native.Nat.{ℕ, _+_, _^_, min}
 use lib.ListN.{length}
 use lib.Dec.{ltb}
 use Rattle.io.specs.Digits.{digits}
-use Rattle.notation.specs.Choice.{choose}
 use Rattle.notation.specs.Lists.{tab, countBefore}
 use Rattle.stores.specs.Writes.{copied}
 
@@ -23,12 +22,3 @@ places b n = 1 + countBefore (λ k. ltb n (b ^ (k + 1))) (tab 20 (λ k. k))
 -- n in base b, small letters, no leading zeros
 unfoldable pub numeral : ℕ → ℕ → List ℕ
 numeral b n = digits b (places b n) n
-
--- the ASCII code of a digit below 16, with a capital letter
-unfoldable pub digit : ℕ → ℕ
-digit d = choose (ltb d 10) (48 + d) (55 + d)
-
--- a word of 32 bits as `0x` and eight digits
-unfoldable pub wordText : ℕ → List ℕ
-wordText w = 48 ∷ 120 ∷ digit (w / 268435456) ∷ digit (w / 16777216 % 16) ∷ digit (w / 1048576 % 16) ∷ digit (w / 65536 % 16)
-    ∷ digit (w / 4096 % 16) ∷ digit (w / 256 % 16) ∷ digit (w / 16 % 16) ∷ digit (w % 16) ∷ []

@@ -22,7 +22,7 @@ fn seen_at(root: Root, ram: &[u8], start: u32, address: u32) -> View
 {
     match root {
         Root::Nowhere => View::Absent,
-        Root::At(page) => reader::seen_from(ram, start, page, address),
+        Root::At(page) => views::seen_from(ram, start, page, address),
     }
 }
 

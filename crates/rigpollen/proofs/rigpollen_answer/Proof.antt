@@ -1,6 +1,5 @@
 use mathlib.Core.Path.{ap}
 use Rattle.types.specs.declared.Answer.{Answer}
-use Rattle.rigpollen.proofs.Told.{answer-told}
 use borrow.Author.Needs.{needs}
 use Rattle.rigpollen.proofs.rigpollen_answer.Statement.{statement}
 use Rattle.rigpollen.proofs.rigpollen_answer.Tie as tie
@@ -8,20 +7,8 @@ use Rattle.rigpollen.proofs.rigpollen_answer.Tie as tie
 load-requires : tie.Need-load-requires
 load-requires c κs = search needs
 
-put-requires : tie.Need-put-requires
-put-requires c κs = search needs
-
-put-requires-2 : tie.Need-put-requires-2
-put-requires-2 c κs = search needs
-
-put-requires-3 : tie.Need-put-requires-3
-put-requires-3 c κs = search needs
-
-put-requires-4 : tie.Need-put-requires-4
-put-requires-4 c κs = search needs
-
-put-requires-5 : tie.Need-put-requires-5
-put-requires-5 c κs = search needs
+tell-answer-requires : tie.Need-tell-answer-requires
+tell-answer-requires c κs = search needs
 
 same-length : tie.Need-same-length
 same-length c = search needs
@@ -31,24 +18,10 @@ same-length-2 c = search needs
 
 returns : tie.Need-returns
 returns c =
-    let p₅ = c .before .before in
-    let p₄ = p₅ .before .before .before .before in
-    let p₃ = p₄ .before .before .before .before in
-    let p₂ = p₃ .before .before .before .before in
-    let p₁ = p₂ .before .before .before .before in
-    let loaded = p₁ .before .before .before .before .load .ensures in
-    (ap (λ (a : Answer). a .number) (loaded .0), loaded .1, answer-told _ _ (p₁ .before .before .before .before .before .before .before .before .before .before .args .answer .now) _ _ _ _ _ (loaded .0) (p₁ .put .ensures) (p₂ .put2 .ensures) (p₃ .put3 .ensures) (p₄ .put4 .ensures) (p₅ .put5 .ensures))
+    let told = c .before .before in
+    let loaded = told .before .before .before .before .load .ensures in
+    (ap (λ (a : Answer). a .number) (loaded .0), loaded .1, rw (← (loaded .0)) (told .tell-answer .ensures))
 
 pub rigpollen-answer-spec : {M : Type 1} → statement M
 rigpollen-answer-spec =
-    tie.close
-    (tie.spec
-    load-requires
-    put-requires
-    put-requires-2
-    put-requires-3
-    put-requires-4
-    put-requires-5
-    same-length
-    same-length-2
-    returns)
+    tie.close (tie.spec load-requires tell-answer-requires same-length same-length-2 returns)

@@ -2,7 +2,7 @@ use Rattle.notation.specs.Choice.{choose}
 use Rattle.notation.specs.Lists.{tab}
 use Rattle.notation.specs.Words.{byteOf}
 use Rattle.rules.specs.Marked.{board, bytes}
-use Rattle.stores.specs.Writes.{withWords}
+use Rattle.word_stores.specs.Words.{withWords}
 use borrow.Author.Needs.{needs}
 use Rattle.small.proofs.board.Statement.{statement}
 use Rattle.small.proofs.board.Tie as tie

@@ -1,4 +1,5 @@
-use Rattle.places.proofs.Capped.{uncapped, page-inside}
+use Rattle.places.proofs.Capped.{uncapped}
+use Rattle.ram_pages.proofs.PageAt.{page-inside}
 use Rattle.loader.proofs.LeafEntries.{tracker-room, tracker-some, tracker-end, kernel-is}
 use native.Mathlib.Omega.{arith}
 use borrow.Author.Needs.{needs}
