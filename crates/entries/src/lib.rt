@@ -17,7 +17,8 @@ pub fn pointer_entry(page: PhysPage) -> u32
 pub fn page_entry(page: PhysPage, write: bool, execute: bool, user: bool) -> u32
     ensures { λ r. ⌜ r ≡ pageEntry (page .0 % 0x40_0000) write execute user ⌝ }
 {
-    1024 * (page.0 % 0x40_0000) + (3 + numbers::flag(write, 4) + numbers::flag(execute, 8) + numbers::flag(user, 16))
+    1024 * (page.0 % 0x40_0000)
+        + (3 + numbers::flag(write, 4) + numbers::flag(execute, 8) + numbers::flag(user, 16))
 }
 
 // A page table entry as it reads. In a valid entry bits 5 to 9 change nothing.

@@ -11,9 +11,9 @@ ghost use Rattle.rules.specs.Tables.{leafEntry};
 ghost use Rattle.rules.specs.Load.{physPage};
 ghost use Rattle.demands.specs.Boot.{Fits};
 ghost use Rattle.loader.specs.LeafEntries.{entriesOf};
-use ram_pages::page_at;
 use places::section_place;
 use places::tracker_place;
+use ram_pages::page_at;
 use types::VirtPage;
 
 // The virtual page of the block copy.

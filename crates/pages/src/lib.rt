@@ -29,4 +29,3 @@ pub fn block_page(page: &mut [u8], block: &[u8])
     stores::clear(page);
     stores::copy_in(page, 0, block);
 }
-

@@ -90,8 +90,10 @@ fn tables_before(block: &[u8], n: u32) -> u32
 pub fn root_place(block: &[u8], pages: u32, q: u32) -> u32
     ensures { λ r. ⌜ r ≡ capped (rootPlace (now (block .entry)) (trackerPages (now (block .entry)) pages) q) ⌝ }
 {
-    let list = capped_sum(tracker_place(block), tracker_size::tracker_pages(block, pages));
+    let list = capped_sum(
+        tracker_place(block),
+        tracker_size::tracker_pages(block, pages),
+    );
     let before = tables_before(block, numbers::minus(q as usize, 1) as u32);
     capped_sum(list, 2 + before as u64)
 }
-

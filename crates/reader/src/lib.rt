@@ -81,4 +81,3 @@ pub fn walk(ram: &[u8], start: u32, root: PhysPage, address: u32) -> Entry
 {
     walk_page(ram, start, root, VirtPage(address / 4096))
 }
-

@@ -96,4 +96,3 @@ pub fn read_region(block: &[u8], i: u32) -> Region
         end: start as u64 + 4096 * (pages as u64),
     }
 }
-

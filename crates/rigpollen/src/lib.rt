@@ -64,7 +64,10 @@ pub extern "C" fn rigpollen_answer(
 fn rights_word(t: Rights) -> u32
     ensures { λ r. ⌜ r ≡ rightsWord t ⌝ }
 {
-    numbers::flag(t.read, 1) + numbers::flag(t.write, 2) + numbers::flag(t.execute, 4) + numbers::flag(t.user, 8)
+    numbers::flag(t.read, 1)
+        + numbers::flag(t.write, 2)
+        + numbers::flag(t.execute, 4)
+        + numbers::flag(t.user, 8)
 }
 
 // What the walk answered.

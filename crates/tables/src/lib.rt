@@ -53,7 +53,11 @@ pub fn reserve_stack(entries: &mut [u32], slot: u32)
 fn pointer_or(marked: bool, page: PhysPage, old: u32) -> u32
     ensures { λ r. ⌜ r ≡ choose marked (pointerEntry (page .0 % 0x40_0000)) old ⌝ }
 {
-    if marked { entries::pointer_entry(page) } else { old }
+    if marked {
+        entries::pointer_entry(page)
+    } else {
+        old
+    }
 }
 
 // Points a root table's marked slots (mark not 0) to their leaf tables; the other slots keep their entry. The first
