@@ -10,3 +10,4 @@ pub mod Reader
 pub mod Sees
 pub mod Compare
 pub mod Marked
+pub mod SmallBoard

