@@ -11,9 +11,9 @@ use Rattle.notation.specs.Choice.{choose}
 use Rattle.notation.specs.Lists.{exists}
 use Rattle.rules.specs.Block.{processCount, sectionsOf, sectionRecord, firstPage, lastPage, pageCount, writable, executable}
 use Rattle.rules.specs.Space.{Data, sectionPage, trackerPage, processList, blockCopy, Mapping, unmapped, stack, maps, hasPage, sectionMapping, sectionAtPage, inTracker, kernelPage, inStack, userPage, mappingAt}
-use Rattle.rules.specs.Order.{holds, order, inRootSlot, hasLeaf}
+use Rattle.rules.specs.Order.{holds, order, slotsOf, inSlots, hasLeaf}
 use Rattle.laws.specs.Choice.{by-test, by-choose, and-left, and-right, and-both, choose-or}
-use Rattle.laws.specs.Lists.{Occurs, by-find-last, exists-hit}
+use Rattle.laws.specs.Lists.{Occurs, by-find-last, exists-hit, some-of-tab}
 use Rattle.placement.specs.Uses.{order-section, order-tracker, order-process-list, order-block-copy}
 
 pub has-page-first : (b : List ℕ) (v n : ℕ) → hasPage b v n ≡ true → firstPage b n ≤ v
@@ -108,31 +108,32 @@ own b T q v = by-mapping (Own q) b T q v tt tt (λ j _ _ _. (j, _, refl)) (λ j 
     true-false e = let z : _≡_ {A = ℕ} 0 1 = cc in omega arith
 
 -- WHERE A PROCESS HAS NO LEAF TABLE, NOTHING STANDS
-in-root-slot : (b : List ℕ) (v n : ℕ) → hasPage b v n ≡ true → inRootSlot b (v / 1024) n ≡ true
-unfolding inRootSlot
+in-root-slot : (b : List ℕ) (v n : ℕ) → hasPage b v n ≡ true → inSlots (v / 1024) (slotsOf b n) ≡ true
+unfolding inSlots slotsOf
 in-root-slot b v n e =
     let f : firstPage b n ≤ v = has-page-first b v n e in
     let g : v ≤ lastPage b n = has-page-last b v n e in
     and-both (le-leb (firstPage b n / 1024) (v / 1024) (omega arith)) (le-leb (v / 1024) (lastPage b n / 1024) (omega arith))
 
-user-unmapped : (b : List ℕ) (q v : ℕ) → choose (eqb (v / 1024) 511) true (exists (λ j. inRootSlot b (v / 1024) (sectionRecord b q j)) (sectionsOf b q)) ≡ false
+user-unmapped : (b : List ℕ) (q v : ℕ) → choose (eqb (v / 1024) 511) true (exists (λ j. inSlots (v / 1024) (slotsOf b (sectionRecord b q j))) (sectionsOf b q)) ≡ false
     → userPage b q v ≡ unmapped
 unfolding userPage sectionAtPage sectionMapping
 user-unmapped b q v e =
-    let none-here : (eqb (v / 1024) 511 ≡ false) × (exists (λ j. inRootSlot b (v / 1024) (sectionRecord b q j)) (sectionsOf b q) ≡ false) = choose-or _ _ e in
+    let none-here : (eqb (v / 1024) 511 ≡ false) × (exists (λ j. inSlots (v / 1024) (slotsOf b (sectionRecord b q j))) (sectionsOf b q) ≡ false) = choose-or _ _ e in
     by-choose (λ s. s ≡ unmapped) (inStack v) _ _
     (λ t. absurd (eqb-false (v / 1024) 511 (none-here .0) (in-stack-slot v t)))
     (λ _. by-find-last (λ j. hasPage b v (sectionRecord b q j)) (λ m. sectionMapping b q v true m ≡ unmapped) (sectionsOf b q)
     (λ _. refl)
-    (λ j c h. cc (exists-hit (λ j. inRootSlot b (v / 1024) (sectionRecord b q j)) (sectionsOf b q) j (in-root-slot b v _ c) h, none-here .1)))
+    (λ j c h. cc (exists-hit (λ j. inSlots (v / 1024) (slotsOf b (sectionRecord b q j))) (sectionsOf b q) j (in-root-slot b v _ c) h, none-here .1)))
 
 pub no-leaf : (b : List ℕ) (T q v : ℕ) → v / 1024 ≢ 1023 → hasLeaf b q (v / 1024) ≡ false → mappingAt b T q v ≡ unmapped
 unfolding mappingAt hasLeaf choose
 no-leaf b T q v n e =
+    let leaf = rw (some-of-tab (inSlots (v / 1024)) (sectionsOf b q) (λ j. slotsOf b (sectionRecord b q j))) at e in
     rw (ne-eqb (v / 1024) 1023 n)
-    (by-test (λ c. choose c (eqb (v / 1024) 1023) (choose (eqb (v / 1024) 511) true (exists (λ j. inRootSlot b (v / 1024) (sectionRecord b q j)) (sectionsOf b q))) ≡ false
+    (by-test (λ c. choose c (eqb (v / 1024) 1023) (choose (eqb (v / 1024) 511) true (exists (λ j. inSlots (v / 1024) (slotsOf b (sectionRecord b q j))) (sectionsOf b q))) ≡ false
     → choose c unmapped (userPage b q v) ≡ unmapped)
-    (eqb q 1) (λ _ _. refl) (λ _ z. user-unmapped b q v z) e)
+    (eqb q 1) (λ _ _. refl) (λ _ z. user-unmapped b q v z) leaf)
 
 -- the kernel's part is the same for every process
 pub kernel-part : (b : List ℕ) (T q v : ℕ) → v / 1024 ≡ 1023 → mappingAt b T 1 v ≡ mappingAt b T q v

@@ -12,7 +12,7 @@ use native.Mathlib.Omega.{arith}
 use lib.ListN.{length, getD, take}
 use lib.Seq.{ext-getD, getD-append-add}
 use Rattle.notation.specs.Choice.{choose}
-use Rattle.notation.specs.Lists.{tab, gather, lookup, countBefore, findLast, exists}
+use Rattle.notation.specs.Lists.{tab, gather, lookup, countBefore, someOf, findLast, exists}
 use Rattle.laws.specs.Choice.{by-choose}
 
 -- none is not some
@@ -285,3 +285,22 @@ unfolding exists
 exists-hit t zero j e h = absurd (not-suc-le-zero h)
 exists-hit t (suc n) j e h = by-choose (λ c. c ≡ true) (t n) true (exists t n) (λ _. refl)
     (λ f. elim (ℕ-discrete j n) [ yes z ↦ cc | no z ↦ exists-hit t n j e (omega arith) ])
+
+-- SOME-OF
+either-order : (a b c : Bool) → choose a true (choose b true c) ≡ choose b true (choose a true c)
+unfolding choose
+either-order true true c = refl
+either-order true false c = refl
+either-order false true c = refl
+either-order false false c = refl
+
+-- number 0 first
+exists-first : (t : ℕ → Bool) (n : ℕ) → exists t (suc n) ≡ choose (t 0) true (exists (λ j. t (suc j)) n)
+unfolding exists
+exists-first t zero = refl
+exists-first t (suc n) = ap (choose (t (suc n)) true) (exists-first t n) ∙ either-order (t (suc n)) (t 0) (exists (λ j. t (suc j)) n)
+
+pub some-of-tab : {A : Type 0} (t : A → Bool) (n : ℕ) (f : ℕ → A) → someOf t (tab n f) ≡ exists (λ j. t (f j)) n
+unfolding someOf tab exists
+some-of-tab t zero f = refl
+some-of-tab t (suc n) f = ap (choose (t (f 0)) true) (some-of-tab t n (λ j. f (suc j))) ∙ sym (exists-first (λ j. t (f j)) n)

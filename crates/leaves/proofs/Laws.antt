@@ -12,10 +12,10 @@ use borrow.Author.Tests.{eq-eqb, ne-eqb, le-leb, lt-leb}
 use Rattle.notation.specs.Choice.{choose}
 use Rattle.notation.specs.Lists.{tab, gather, sum, exists}
 use Rattle.laws.specs.Choice.{choose-yes, choose-no, choose-either}
-use Rattle.laws.specs.Lists.{tab-by, tab-length, tab-get, tab-same}
+use Rattle.laws.specs.Lists.{tab-by, tab-length, tab-get, tab-same, some-of-tab}
 use Rattle.laws.specs.Counts.{one, sum-same, gather-length, one-length}
 use Rattle.rules.specs.Block.{sectionsOf, sectionRecord, firstPage, lastPage}
-use Rattle.rules.specs.Order.{leafTable, inRootSlot, hasLeaf, tableUses}
+use Rattle.rules.specs.Order.{leafTable, slotsOf, inSlots, hasLeaf, tableUses}
 use Rattle.stores.proofs.Written.{Between}
 use Rattle.leaves.specs.Marks.{leafMarks, alsoMarked, touched}
 
@@ -38,8 +38,8 @@ pub section-marks : (b : List ℕ) (n x y : ℕ) (l l′ : List ℕ)
     → x ≡ firstPage b n
     → y ≡ lastPage b n
     → l′ ≡ alsoMarked (λ m. leb (x / 1024) m && leb m (y / 1024)) l
-    → l′ ≡ alsoMarked (λ m. inRootSlot b m n) l
-unfolding inRootSlot
+    → l′ ≡ alsoMarked (λ m. inSlots m (slotsOf b n)) l
+unfolding inSlots slotsOf
 section-marks b n x y l l′ ex ey e = rw (ex, ey) at e
 
 pub sections-start : (b : List ℕ) (q : ℕ) (l : List ℕ) → l ≡ alsoMarked (touched b q 0) l
@@ -49,7 +49,7 @@ sections-start b q l = tab-by (length l) _ 0 l refl (λ i h. refl)
 pub sections-turn : (b : List ℕ) (q j n : ℕ) (l₀ l l′ : List ℕ)
     → l ≡ alsoMarked (touched b q j) l₀
     → n ≡ sectionRecord b q j
-    → l′ ≡ alsoMarked (λ m. inRootSlot b m n) l
+    → l′ ≡ alsoMarked (λ m. inSlots m (slotsOf b n)) l
     → l′ ≡ alsoMarked (touched b q (j + 1)) l₀
 unfolding touched exists
 sections-turn b q j n l₀ l l′ v s e = e ∙ rw (v, s, add-one) (marked-twice _ _ l₀)
@@ -84,7 +84,7 @@ pub user-marks : (b : List ℕ) (q n : ℕ) (l l′ l″ : List ℕ) → (q ≡ 
     → l″ ≡ leafMarks b q n
 unfolding leafMarks hasLeaf touched
 user-marks b q n l l′ l″ k z s e =
-    e ∙ rw (s, z) (marked-twice _ _ (tab n (λ k. 0)) ∙ marked-first n _ ∙ tab-same n _ _ 0 (λ m h. rw (only 511 m, choose-no (eqb m 1023) _ (ne-eqb q 1 k))))
+    e ∙ rw (s, z) (marked-twice _ _ (tab n (λ k. 0)) ∙ marked-first n _ ∙ tab-same n _ _ 0 (λ m h. rw (only 511 m, choose-no (eqb m 1023) _ (ne-eqb q 1 k), some-of-tab)))
 
 -- the root table, and a leaf table for each mark
 pub table-length : (b : List ℕ) (q : ℕ) (l : List ℕ) → l ≡ leafMarks b q 1024 → 1 + sum (length l) (λ m. getD l m 0) ≡ length (tableUses b q)

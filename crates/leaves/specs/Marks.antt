@@ -6,7 +6,7 @@ use lib.ListN.{length, getD}
 use Rattle.notation.specs.Choice.{choose}
 use Rattle.notation.specs.Lists.{tab, exists}
 use Rattle.rules.specs.Block.{sectionRecord}
-use Rattle.rules.specs.Order.{inRootSlot, hasLeaf}
+use Rattle.rules.specs.Order.{slotsOf, inSlots, hasLeaf}
 
 -- the marks of root slots 0 to n - 1: those for which process q has a leaf table
 unfoldable pub leafMarks : List ℕ → ℕ → ℕ → List ℕ
@@ -18,4 +18,4 @@ alsoMarked t l = tab (length l) (λ m. choose (t m) 1 (getD l m 0))
 
 -- one of the first k sections of process q has a page in root slot m
 unfoldable pub touched : List ℕ → ℕ → ℕ → ℕ → Bool
-touched b q k m = exists (λ j. inRootSlot b m (sectionRecord b q j)) k
+touched b q k m = exists (λ j. inSlots m (slotsOf b (sectionRecord b q j))) k

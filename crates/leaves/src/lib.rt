@@ -6,7 +6,7 @@ ghost use lib.Dec.{leb};
 ghost use lib.ListN.{length, getD};
 ghost use Rattle.notation.specs.Lists.{sum};
 ghost use Rattle.rules.specs.Block.{sectionsOf};
-ghost use Rattle.rules.specs.Order.{inRootSlot, tableUses};
+ghost use Rattle.rules.specs.Order.{slotsOf, inSlots, tableUses};
 ghost use Rattle.leaves.specs.Marks.{leafMarks, alsoMarked, touched};
 
 // Marks root slots `first` to `last`, as far as there are marks.
@@ -23,7 +23,7 @@ fn mark(marks: &mut [u8], first: u32, last: u32)
 
 // Marks the root slots that have a page of section record n.
 fn mark_section(block: &[u8], n: usize, marks: &mut [u8])
-    ensures { λ _. ⌜ now (marks .exit) ≡ alsoMarked (λ m. inRootSlot (now (block .entry)) m n) (now (marks .entry)) ⌝ }
+    ensures { λ _. ⌜ now (marks .exit) ≡ alsoMarked (λ m. inSlots m (slotsOf (now (block .entry)) n)) (now (marks .entry)) ⌝ }
 {
     let section = records::read_section(block, n);
     mark(marks, section.first_page / 1024, section.last_page / 1024);

@@ -32,6 +32,11 @@ module _ {A : Type 0} where
   count t [] = 0
   count t (x ∷ xs) = let n = count t xs in choose (t x) (suc n) n
 
+  -- one of the elements passes the test
+  unfoldable pub someOf : (A → Bool) → List A → Bool
+  someOf t [] = false
+  someOf t (x ∷ xs) = let m = someOf t xs in choose (t x) true m
+
 -- f 0 + f 1 + .. + f (n - 1)
 unfoldable pub sum : ℕ → (ℕ → ℕ) → ℕ
 sum zero f = 0

@@ -5,13 +5,13 @@ use mathlib.Core.List.{List, [], _∷_}
 use Prim.Native.Nat.{ℕ, _*_}
 use lib.Dec.{eqb}
 use Rattle.notation.specs.Choice.{choose, any}
-use Rattle.notation.specs.Lists.{tab, gather, sum, exists, findLast}
+use Rattle.notation.specs.Lists.{tab, gather, sum, exists, someOf, findLast}
 use Rattle.notation.specs.Words.{word, byteOf}
 use Rattle.types.specs.declared.Answer.{Answer}
 use Rattle.rules.specs.Block.{format, lengthField, processCount, processOffset, sectionCount, sectionOffset, regionCount, regionOffset, sectionsAt, regionsAt, tightLength}
 use Rattle.rules.specs.Block.{processAt, entryPoint, firstSection, sectionsOf, kind, sectionRecord, sectionAt, address, size, flashOffset, flags, noCopy, writable, executable, sectionEnd}
 use Rattle.rules.specs.Block.{firstPage, lastPage, pageCount, regionAt, regionStart, regionPages, regionEnd, ioPagesOf, ioPages}
-use Rattle.rules.specs.Order.{sectionUses, inRootSlot, hasLeaf, tableUses, order, pagesFor, trackerPages, uses, pagesNeeded, freePages}
+use Rattle.rules.specs.Order.{sectionUses, slotsOf, inSlots, hasLeaf, tableUses, order, pagesFor, trackerPages, uses, pagesNeeded, freePages}
 use Rattle.rules.specs.Refusals.{ramUnfit, blockTooShort, formatUnknown, outside, countsOutOfBounds, layoutNotTight, sectionsBefore, processUnfit, sectionUnfit, hasSection, ownerOf}
 use Rattle.rules.specs.Refusals.{rangeFirst, rangeLast, sectionMisplaced, sectionPastFlash, entryPointOutside, shareAddress, regionUnfit, ramTooSmall}
 use Rattle.rules.specs.Refusals.{refused, accepted, firstRecord, firstRefusal, sectionRefusal, checks, verdict}
@@ -76,5 +76,5 @@ marked =
 
 -- all examples hold
 pub P1-to-P12 : allHold marked ≡ true
-unfolding allHold exampleHolds given marked smallBoard board bytes answer answerTo verdict checks firstRefusal firstRecord refused accepted sectionRefusal ramUnfit blockTooShort formatUnknown outside countsOutOfBounds layoutNotTight sectionsBefore processUnfit sectionUnfit hasSection ownerOf rangeFirst rangeLast sectionMisplaced sectionPastFlash entryPointOutside shareAddress regionUnfit ramTooSmall sectionUses inRootSlot hasLeaf tableUses order pagesFor trackerPages uses pagesNeeded freePages format lengthField processCount processOffset sectionCount sectionOffset regionCount regionOffset sectionsAt regionsAt tightLength processAt entryPoint firstSection sectionsOf kind sectionRecord sectionAt address size flashOffset flags noCopy writable executable sectionEnd firstPage lastPage pageCount regionAt regionStart regionPages regionEnd ioPagesOf ioPages word byteOf choose any tab gather sum exists findLast
+unfolding allHold exampleHolds given marked smallBoard board bytes answer answerTo verdict checks firstRefusal firstRecord refused accepted sectionRefusal ramUnfit blockTooShort formatUnknown outside countsOutOfBounds layoutNotTight sectionsBefore processUnfit sectionUnfit hasSection ownerOf rangeFirst rangeLast sectionMisplaced sectionPastFlash entryPointOutside shareAddress regionUnfit ramTooSmall sectionUses slotsOf inSlots hasLeaf tableUses order pagesFor trackerPages uses pagesNeeded freePages format lengthField processCount processOffset sectionCount sectionOffset regionCount regionOffset sectionsAt regionsAt tightLength processAt entryPoint firstSection sectionsOf kind sectionRecord sectionAt address size flashOffset flags noCopy writable executable sectionEnd firstPage lastPage pageCount regionAt regionStart regionPages regionEnd ioPagesOf ioPages word byteOf choose any tab gather sum exists someOf findLast
 P1-to-P12 = refl

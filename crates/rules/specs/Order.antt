@@ -7,7 +7,7 @@ use lib.ListN.{length}
 use lib.Dec.{leb, eqb}
 use native.Mathlib.Decide.{ℕ-discrete}
 use Rattle.notation.specs.Choice.{choose}
-use Rattle.notation.specs.Lists.{tab, gather, exists, lookup, countBefore, count}
+use Rattle.notation.specs.Lists.{tab, gather, someOf, lookup, countBefore, count}
 use Rattle.rules.specs.Block.{processCount, sectionsOf, sectionRecord, firstPage, lastPage, pageCount, ioPages}
 use Rattle.rules.specs.Space.{Data, Data-discrete, sectionPage, trackerPage, processList, blockCopy}
 
@@ -28,20 +28,28 @@ pub data Use : Type 0 where
 unfoldable pub sectionUses : List ℕ → ℕ → List Use
 sectionUses b q = gather (sectionsOf b q) (λ j. tab (pageCount b (sectionRecord b q j)) (λ i. holds (sectionPage q j i)))
 
--- section record n has a page in root slot m
-unfoldable pub inRootSlot : List ℕ → ℕ → ℕ → Bool
-inRootSlot b m n = leb (firstPage b n / 1024) m && leb m (lastPage b n / 1024)
+-- root slots `first` to `last`
+pub record Slots : Type 0 where
+  pub first : ℕ
+  pub last : ℕ
+
+-- those that have a page of section record n
+unfoldable pub slotsOf : List ℕ → ℕ → Slots
+slotsOf b n = let x = firstPage b n / 1024 in let y = lastPage b n / 1024 in record { first = x; last = y }
+
+unfoldable pub inSlots : ℕ → Slots → Bool
+inSlots m s = leb (s .first) m && leb m (s .last)
 
 -- process q has a leaf table for root slot m: the kernel its one, for slot 1,023; a user process for each slot that has a page of
 -- one of its sections, and for slot 511, which has its stack
 unfoldable pub hasLeaf : List ℕ → ℕ → ℕ → Bool
-hasLeaf b q m =
-    choose (eqb q 1) (eqb m 1023)
-    (choose (eqb m 511) true (exists (λ j. inRootSlot b m (sectionRecord b q j)) (sectionsOf b q)))
+hasLeaf b q =
+    let sections = tab (sectionsOf b q) (λ j. slotsOf b (sectionRecord b q j)) in
+    λ m. choose (eqb q 1) (eqb m 1023) (choose (eqb m 511) true (someOf (inSlots m) sections))
 
 -- the tables of process q: its root, then its leaves, rising
 unfoldable pub tableUses : List ℕ → ℕ → List Use
-tableUses b q = rootTable q ∷ gather 1024 (λ m. choose (hasLeaf b q m) (leafTable q m ∷ []) [])
+tableUses b q = let leaf = hasLeaf b q in rootTable q ∷ gather 1024 (λ m. choose (leaf m) (leafTable q m ∷ []) [])
 
 -- the order: the four at the top; the sections of process 2, 3 and so on, then the kernel's; the tracker's T pages; the process
 -- list; the copy of the block; the tables of the kernel, then of each user process

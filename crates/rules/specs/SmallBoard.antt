@@ -4,12 +4,12 @@ use mathlib.Core.List.{[], _∷_}
 use Prim.Native.Nat.{ℕ}
 use native.Mathlib.Decide.{ℕ-discrete}
 use Rattle.notation.specs.Choice.{choose}
-use Rattle.notation.specs.Lists.{tab, gather, sum, exists, findLast, lookup, countBefore, count}
+use Rattle.notation.specs.Lists.{tab, gather, sum, someOf, findLast, lookup, countBefore, count}
 use Rattle.notation.specs.Words.{word, byteOf}
 use Rattle.rules.specs.Block.{processCount, sectionCount, regionCount, sectionsAt, regionsAt, processAt, firstSection, sectionsOf, sectionRecord, sectionAt, address, size, flags, writable, executable}
 use Rattle.rules.specs.Block.{sectionEnd, firstPage, lastPage, pageCount, regionAt, regionPages, ioPagesOf, ioPages}
 use Rattle.rules.specs.Space.{sectionPage, trackerPage, processList, blockCopy, hasPage, sectionMapping, sectionAtPage, inTracker, kernelPage, inStack, userPage, mappingAt}
-use Rattle.rules.specs.Order.{Use, holds, rootTable, leafTable, sectionUses, inRootSlot, hasLeaf, tableUses, order, pagesFor, trackerPages, uses, pagesNeeded, freePages, useOf, sameUse, ramPage, dataOwner, useOwner, owner, pagesOf}
+use Rattle.rules.specs.Order.{Use, holds, rootTable, leafTable, sectionUses, slotsOf, inSlots, hasLeaf, tableUses, order, pagesFor, trackerPages, uses, pagesNeeded, freePages, useOf, sameUse, ramPage, dataOwner, useOwner, owner, pagesOf}
 use Rattle.rules.specs.Entries.{absentEntry, reservedEntry, pointerEntry, pageEntry}
 use Rattle.rules.specs.Tables.{rootEntry, entryFor, leafEntry}
 use Rattle.rules.specs.Contents.{tracker}
@@ -24,10 +24,10 @@ unfoldable pub phys : Use → ℕ
 phys u = physPage smallBoard 0x40000 16 u
 
 pub record SmallBoard : Type 0 where
-  -- A 11, B 10, kernel section 9, tracker 8, list 7, block 6
+  -- A 11, B 10, kernel section 9, tracker 8, list 7, block copy 6
   pub data-pages : page (holds (sectionPage 2 0 0)) ∷ page (holds (sectionPage 2 1 0)) ∷ page (holds (sectionPage 1 0 0))
       ∷ page (holds (trackerPage 0)) ∷ page (holds processList) ∷ page (holds blockCopy) ∷ [] ≡ 11 ∷ 10 ∷ 9 ∷ 8 ∷ 7 ∷ 6 ∷ []
-  -- kernel root 5, kernel leaf 4, process 2 root 3, its leaves 2 (block 0) and 1 (block 511)
+  -- kernel root 5, kernel leaf 4, process 2 root 3, its leaves 2 (root slot 0) and 1 (root slot 511)
   pub table-pages : page (rootTable 1) ∷ page (leafTable 1 1023) ∷ page (rootTable 2) ∷ page (leafTable 2 0) ∷ page (leafTable 2 511) ∷ []
       ≡ 5 ∷ 4 ∷ 3 ∷ 2 ∷ 1 ∷ []
   -- A at entry 16 of page 2, B at 32
@@ -44,7 +44,7 @@ pub record SmallBoard : Type 0 where
   pub owners-pages : pagesOf smallBoard 16 1 ∷ pagesOf smallBoard 16 2 ∷ [] ≡ 13 ∷ 2 ∷ []
 
 pub small-board : SmallBoard
-unfolding ℕ-discrete page phys smallBoard board bytes ramPage physPage satpWord tracker pagesOf leafEntry rootEntry entryFor absentEntry reservedEntry pointerEntry pageEntry mappingAt userPage inStack kernelPage inTracker sectionAtPage sectionMapping hasPage uses pagesNeeded freePages useOf sameUse order tableUses hasLeaf inRootSlot sectionUses pagesFor trackerPages dataOwner useOwner owner processCount sectionCount regionCount sectionsAt regionsAt processAt firstSection sectionsOf sectionRecord sectionAt address size flags writable executable sectionEnd firstPage lastPage pageCount regionAt regionPages ioPagesOf ioPages word byteOf choose tab gather sum exists findLast lookup countBefore count
+unfolding ℕ-discrete page phys smallBoard board bytes ramPage physPage satpWord tracker pagesOf leafEntry rootEntry entryFor absentEntry reservedEntry pointerEntry pageEntry mappingAt userPage inStack kernelPage inTracker sectionAtPage sectionMapping hasPage uses pagesNeeded freePages useOf sameUse order tableUses hasLeaf slotsOf inSlots sectionUses pagesFor trackerPages dataOwner useOwner owner processCount sectionCount regionCount sectionsAt regionsAt processAt firstSection sectionsOf sectionRecord sectionAt address size flags writable executable sectionEnd firstPage lastPage pageCount regionAt regionPages ioPagesOf ioPages word byteOf choose tab gather sum someOf findLast lookup countBefore count
 small-board = record {
   data-pages = refl;
   table-pages = refl;

@@ -6,6 +6,8 @@ ghost use lib.ListN.{set};
 ghost use Rattle.notation.specs.Choice.{choose};
 ghost use Rattle.rules.specs.Entries.{pointerEntry};
 ghost use Rattle.tables.specs.Filled.{pagesMapped, stackReserved, leavesPointed};
+use entries::page_entry;
+use entries::pointer_entry;
 use types::PhysPage;
 use types::VirtPage;
 
@@ -30,7 +32,7 @@ pub fn map_pages(
     let mut i = numbers::minus(start, base);
     while i < end {
         let page = numbers::minus(first.0 as usize, base + i - start) as u32;
-        entries[i] = entries::page_entry(PhysPage(page), write, execute, user);
+        entries[i] = page_entry(PhysPage(page), write, execute, user);
         i += 1;
     }
 }
@@ -53,11 +55,7 @@ pub fn reserve_stack(entries: &mut [u32], slot: u32)
 fn pointer_or(marked: bool, page: PhysPage, old: u32) -> u32
     ensures { λ r. ⌜ r ≡ choose marked (pointerEntry (page .0 % 0x40_0000)) old ⌝ }
 {
-    if marked {
-        entries::pointer_entry(page)
-    } else {
-        old
-    }
+    if marked { pointer_entry(page) } else { old }
 }
 
 // Points a root table's marked slots (mark not 0) to their leaf tables; the other slots keep their entry. The first
@@ -83,6 +81,6 @@ pub fn point_to_kernel(entries: &mut [u32], leaf: PhysPage)
     ensures { λ _. ⌜ now (entries .exit) ≡ set (now (entries .entry)) 1023 (pointerEntry (leaf .0 % 0x40_0000)) ⌝ }
 {
     if 1023 < entries.len() {
-        entries[1023] = entries::pointer_entry(leaf);
+        entries[1023] = pointer_entry(leaf);
     }
 }
