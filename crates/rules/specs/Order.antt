@@ -35,13 +35,13 @@ pub record Slots : Type 0 where
 
 -- those that have a page of section record n
 unfoldable pub slotsOf : List ℕ → ℕ → Slots
-slotsOf b n = let x = firstPage b n / 1024 in let y = lastPage b n / 1024 in record { first = x; last = y }
+slotsOf b n = record { first = firstPage b n / 1024; last = lastPage b n / 1024 }
 
 unfoldable pub inSlots : ℕ → Slots → Bool
 inSlots m s = leb (s .first) m && leb m (s .last)
 
 -- process q has a leaf table for root slot m: the kernel its one, for slot 1,023; a user process for each slot that has a page of
--- one of its sections, and for slot 511, which has its stack
+-- one of its sections, and for slot 511, which has its stack. (`sections` has the slots of each, the same for all m)
 unfoldable pub hasLeaf : List ℕ → ℕ → ℕ → Bool
 hasLeaf b q =
     let sections = tab (sectionsOf b q) (λ j. slotsOf b (sectionRecord b q j)) in
