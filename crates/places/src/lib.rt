@@ -1,7 +1,7 @@
 // Places in the order of pages: how many uses stand before a use, and what page that is. A place is told as at most 65,536,
 // which is past any RAM, so that any block has an answer.
 ghost use mathlib.Core.Path.{_≡_};
-ghost use Prim.Native.Nat.{_+_, _-_, _%_, _≤_};
+ghost use Prim.Native.Nat.{_+_, _-_, _≤_};
 ghost use lib.Dec.{eqb};
 ghost use Rattle.notation.specs.Choice.{choose};
 ghost use Rattle.rules.specs.Block.{processCount};

@@ -1,5 +1,4 @@
 // Text put into a lent buffer at an index, as much as there is room for. Each function answers the index after what it put.
-ghost use mathlib.Core.Path.{_≡_};
 ghost use Rattle.text.specs.Text.{Appended, numeral};
 
 // Bytes as they are.
