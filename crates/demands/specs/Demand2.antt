@@ -1,31 +1,36 @@
 -- DEMAND 2: "After success, walking each process's tables by the Sv32 rules shows exactly the sections 01 gives it, zero around them,
 -- those rights, and nothing else but the kernel's own mapping and the stack reserve. A RAM page reached from a user section has one
 -- owner and one virtual page. Owners' pages, counted by 01's order, and free pages add up to RAM."
-use mathlib.Core.Path.{_≡_, sym, ap, _∙_}
-use mathlib.Core.Logic.{_⊎_, inl, inr}
+use mathlib.Core.Path.{_≡_, refl, sym, ap, _∙_}
+use mathlib.Core.Logic.{_≢_, _⊎_, inl, inr}
 use mathlib.Core.List.{List}
-use mathlib.Core.Bool.{true}
+use mathlib.Core.Bool.{Bool, true, false}
 use Prim.Native.Nat.{ℕ, _+_, _-_, _*_, _/_, _≤_, _<_}
 use native.Mathlib.Omega.{arith}
 use lib.ListN.{length, getD, take}
 use lib.Dec.{eqb}
 use borrow.Author.Tests.{le-leb}
+use Rattle.notation.specs.Choice.{choose}
 use Rattle.notation.specs.Lists.{count, sum}
 use Rattle.types.specs.declared.PhysPage.{PhysPage}
 use Rattle.types.specs.declared.Rights.{Rights}
 use Rattle.types.specs.declared.Entry.the-variants.{Page}
 use Rattle.types.specs.declared.Answer.{Answer}
-use Rattle.rules.specs.Block.{processCount}
-use Rattle.rules.specs.Space.{Data, sectionPage, Mapping, unmapped, stack, maps, mappingAt}
+use Rattle.rules.specs.Block.{processCount, sectionsOf, sectionRecord, address, size, flashOffset, noCopy}
+use Rattle.rules.specs.Space.{Data, trackerPage, Mapping, unmapped, stack, maps, mappingAt}
 use Rattle.rules.specs.Order.{Use, holds, order, uses, trackerPages, pagesNeeded, freePages, pagesOf, ramPage, useOwner, dataOwner, owner}
 use Rattle.rules.specs.Contents.{tracker}
 use Rattle.rules.specs.Load.{physPage, satpWord, pageByte, loaded, boots, ramAfter, answerTo, answer}
 use Rattle.rules.specs.Reader.{insideRam, walk}
-use Rattle.rules.specs.Sees.{sees, seenFrom, rootOf, processSees}
-use Rattle.laws.specs.Choice.{and-both, choose-yes}
+use Rattle.rules.specs.Sees.{sees, sectionView, seenFrom, rootOf, processSees}
+use Rattle.laws.specs.Choice.{by-choose, and-both, choose-yes}
 use Rattle.laws.specs.Lists.{Occurs}
-use Rattle.demands.specs.Boot.{Boot, boot}
 use Rattle.placement.specs.Uses.{InRam, in-ram, one-use, use-free, use-top}
+use Rattle.placement.specs.Places.{trackerPlace, place-tracker, ram-page-at}
+use Rattle.demands.specs.NoCause.{NoCause, booted-no-cause}
+use Rattle.demands.specs.Boot.{Boot, boot}
+use Rattle.demands.specs.Sections.{section-in-space, section-in-flash}
+use Rattle.demands.specs.Exactly.{Exactly, exactly, tracker-two, tracker-page}
 use Rattle.demands.specs.Mappings.{AtHome, at-home, homeOf, Own, own}
 use Rattle.demands.specs.Entries.{readable}
 use Rattle.demands.specs.Walk.{answerFor, walk-answers, sees-rules}
@@ -38,8 +43,9 @@ pub record Reached (b : List ℕ) (base N q v : ℕ) (t : Rights) (P : PhysPage)
   pub placed : InRam b N (holds page)
   pub number : P .0 ≡ base + ramPage b N (holds page)
   pub home : homeOf b page ≡ v
-  -- with the user right: a page of one of its own sections
-  pub own-section : t .user ≡ true → (j : ℕ) × (i : ℕ) × (page ≡ sectionPage q j i)
+  -- with the user right it is the process's own, which is not the kernel; without it the kernel's
+  pub owner-is : dataOwner page ≡ choose (t .user) q 1
+  pub user : t .user ≡ true → q ≢ 1
 
 by-answer : (b : List ℕ) (base N q v : ℕ) (t : Rights) (P : PhysPage) → ((u : Use) → Occurs (order b (trackerPages b N)) u → InRam b N u)
     → (s : Mapping) → AtHome b (trackerPages b N) v s → Own q s → answerFor (physPage b base N) s ≡ Page t P → Reached b base N q v t P
@@ -49,17 +55,46 @@ by-answer b base N q v t P place stack g o e = let z : _≡_ {A = ℕ} 0 1 = cc 
 by-answer b base N q v t P place (maps d w x u) g o e =
     let p : record { 0 = base + ramPage b N (holds d) } ≡ P = cc in
     let r : readable w x u ≡ t = cc in
+    let s : u ≡ t .user = ap (λ (t : Rights). t .user) r in
     record {
       page = d;
       placed = place (holds d) (g .0);
       number = sym (ap (λ (p : PhysPage). p .0) p);
       home = g .1;
-      own-section = λ e. o (ap (λ (t : Rights). t .user) r ∙ e);
+      owner-is = o .0 ∙ ap (λ (c : Bool). choose c q 1) s;
+      user = λ e. o .1 (s ∙ e);
     }
+
+-- WHAT THE DEMAND SAYS of RAM `r` after a call on `ram`, and of the call's answer
+-- the RAM page at physical page P, which process q reaches at address a
+pub record OneOwner (b : List ℕ) (start : ℕ) (ram r : List ℕ) (q a : ℕ) (P : PhysPage) : Type 0 where
+  -- it is RAM page k, and the tracker names process q there
+  pub k : ℕ
+  pub inside : k < length ram / 4096
+  pub number : P .0 ≡ start / 4096 + k
+  pub tracked : getD (tracker b (length ram / 4096)) k 0 ≡ q
+  -- whoever reaches it, with whatever rights, is process q at the same virtual page
+  pub only : (q′ a′ : ℕ) → 1 ≤ q′ → q′ ≤ processCount b → a′ < 0x1_0000_0000 → (t′ : Rights)
+      → walk r start (rootOf b start ram q′) a′ ≡ Page t′ P → (q′ ≡ q) × (a′ / 4096 ≡ a / 4096)
+
+-- so of each page that a process reaches with the user right
+abbrev pub OneOwnerEach : List ℕ → ℕ → List ℕ → List ℕ → Type 0
+OneOwnerEach b start ram r =
+    (q a : ℕ) → 1 ≤ q → q ≤ processCount b → a < 0x1_0000_0000 → (t : Rights) (P : PhysPage)
+    → walk r start (rootOf b start ram q) a ≡ Page t P → t .user ≡ true → OneOwner b start ram r q a P
+
+-- owners' pages, counted by the order of pages, and free pages add up to RAM's N pages; they are the answer's counts, the four pages at
+-- the top among those taken; and the tracker's bytes for RAM's pages count the same, owner by owner
+pub record AddUp (b : List ℕ) (N : ℕ) (full : Answer) : Type 0 where
+  pub total : sum (processCount b) (λ i. pagesOf b N (i + 1)) + freePages b N ≡ N
+  pub taken : full .taken ≡ sum (processCount b) (λ i. pagesOf b N (i + 1))
+  pub free : full .free ≡ freePages b N
+  pub tracked : (q : ℕ) → 1 ≤ q → count (λ x. eqb x q) (take N (tracker b N)) ≡ pagesOf b N q
+  pub tracked-free : count (λ x. eqb x 0) (take N (tracker b N)) ≡ freePages b N
 
 module _ (b flash : List ℕ) (start : ℕ) (ram : List ℕ) (booted : boots b flash start ram ≡ true) where
   facts : Boot b start (length ram)
-  facts = boot b flash start ram booted
+  facts = boot b (length flash) start (length ram) (booted-no-cause b flash start ram booted)
 
   -- the walk of RAM after the boot, by way of process q's root
   walked : (q a : ℕ) → 1 ≤ q → q ≤ processCount b → a < 0x1_0000_0000
@@ -107,56 +142,79 @@ module _ (b flash : List ℕ) (start : ℕ) (ram : List ℕ) (booted : boots b f
     λ t P e. page-in-ram t P (reached q a lo hi h t P e),
   )
 
-  owned : {d : Data} {q j i : ℕ} → InRam b (length ram / 4096) (holds d) → d ≡ sectionPage q j i
-      → getD (tracker b (length ram / 4096)) (ramPage b (length ram / 4096) (holds d)) 0 ≡ q
-  unfolding owner useOwner dataOwner
-  owned p e = tracker-byte b _ _ (p .inside) ∙ rw (p .used, e)
+  -- EXACTLY ITS SECTIONS, zero around them, those rights, and nothing else but the kernel's own mapping and the stack reservation
+  pub sees-exactly : (q a : ℕ) → 1 ≤ q → q ≤ processCount b → a < 0x1_0000_0000
+      → Exactly b flash (start / 4096) (length ram / 4096) q a (processSees b flash start ram q a)
+  sees-exactly q a lo hi h =
+      rw (sees-what-the-rules-give q a lo hi h .0) (exactly b flash (length flash) start (length ram) (booted-no-cause b flash start ram booted) q a lo hi)
 
-  -- A RAM PAGE REACHED WITH THE USER RIGHT HAS ONE OWNER AND ONE VIRTUAL PAGE: it is RAM page k, the tracker names process q there, and
-  -- whoever reaches it with the user right is q, at the same virtual page
-  pub one-owner-one-virtual-page : (q a : ℕ) → 1 ≤ q → q ≤ processCount b → a < 0x1_0000_0000 → (t : Rights) (P : PhysPage)
-      → walk (ramAfter b flash start ram) start (rootOf b start ram q) a ≡ Page t P → t .user ≡ true
-      → ((k : ℕ) × (k < length ram / 4096) × (P .0 ≡ start / 4096 + k) × (getD (tracker b (length ram / 4096)) k 0 ≡ q))
-      × ((q′ a′ : ℕ) → 1 ≤ q′ → q′ ≤ processCount b → a′ < 0x1_0000_0000 → (t′ : Rights)
-      → walk (ramAfter b flash start ram) start (rootOf b start ram q′) a′ ≡ Page t′ P → t′ .user ≡ true
-      → (q′ ≡ q) × (a′ / 4096 ≡ a / 4096))
+  -- byte k of section j of process q is seen at the section's address + k; without NOCOPY it lies in flash
+  pub section-seen : (q j k : ℕ) → 1 ≤ q → q ≤ processCount b → j < sectionsOf b q → k < size b (sectionRecord b q j)
+      → (address b (sectionRecord b q j) + k < 0x1_0000_0000)
+      × (processSees b flash start ram q (address b (sectionRecord b q j) + k) ≡ sectionView b flash q (sectionRecord b q j) k)
+      × (noCopy b (sectionRecord b q j) ≡ false → flashOffset b (sectionRecord b q j) + k < length flash)
+  section-seen q j k lo hi hj hk =
+      let ok : NoCause b (length flash) start (length ram) = booted-no-cause b flash start ram booted in
+      let small : address b (sectionRecord b q j) + k < 0x1_0000_0000 = section-in-space b _ start _ ok q j lo hi hj k hk in
+      (small, sees-exactly q _ lo hi small .section q j k (inl refl) hj hk refl, section-in-flash b _ start _ ok q j lo hi hj k hk)
+
+  -- the tracker's lower part is in the higher RAM page: page i is i RAM pages below the first, in every process
+  pub tracker-falls : (q i : ℕ) → 1 ≤ q → q ≤ processCount b → i < trackerPages b (length ram / 4096)
+      → walk (ramAfter b flash start ram) start (rootOf b start ram q) (0xFFF4_0000 + 4096 * i)
+      ≡ Page (readable true false false) (record { 0 = start / 4096 + (ramPage b (length ram / 4096) (holds (trackerPage 0)) - i) })
+  unfolding answerFor physPage
+  tracker-falls q i lo hi h =
+      let N : ℕ = length ram / 4096 in
+      let T : ℕ = trackerPages b N in
+      let two : T ≤ 2 = tracker-two b (length flash) start (length ram) (booted-no-cause b flash start ram booted) in
+      let v : (0xFFF4_0000 + 4096 * i) / 4096 ≡ 0xFFF40 + i = omega arith in
+      let at-i : ramPage b N (holds (trackerPage i)) ≡ N - 1 - (trackerPlace b + i) = ram-page-at b N _ _ (place-tracker b T i h) in
+      let at-0 : ramPage b N (holds (trackerPage 0)) ≡ N - 1 - (trackerPlace b + 0) = ram-page-at b N _ _ (place-tracker b T 0 (omega arith)) in
+      let e : ramPage b N (holds (trackerPage i)) ≡ ramPage b N (holds (trackerPage 0)) - i = omega arith in
+      walked q (0xFFF4_0000 + 4096 * i) lo hi (omega arith) ∙ rw (v, tracker-page b T q i h two, e)
+
+  -- the tracker names the owner of a page of data
+  owned : {d : Data} → InRam b (length ram / 4096) (holds d)
+      → getD (tracker b (length ram / 4096)) (ramPage b (length ram / 4096) (holds d)) 0 ≡ dataOwner d
+  unfolding owner useOwner
+  owned p = tracker-byte b _ _ (p .inside) ∙ rw (p .used)
+
+  -- A RAM PAGE REACHED WITH THE USER RIGHT HAS ONE OWNER AND ONE VIRTUAL PAGE
+  pub one-owner-one-virtual-page : OneOwnerEach b start ram (ramAfter b flash start ram)
   one-owner-one-virtual-page q a lo hi h t P e u =
       let r : Reached b (start / 4096) (length ram / 4096) q (a / 4096) t P = reached q a lo hi h t P e in
-      let s : (j : ℕ) × (i : ℕ) × (r .page ≡ sectionPage q j i) = r .own-section u in (
-        (ramPage b (length ram / 4096) (holds (r .page)), r .placed .inside, r .number, owned (r .placed) (s .2)),
-        λ q′ a′ lo′ hi′ h′ t′ e′ u′.
+      let mine : dataOwner (r .page) ≡ q = r .owner-is ∙ choose-yes q 1 u in
+      record {
+        k = ramPage b (length ram / 4096) (holds (r .page));
+        inside = r .placed .inside;
+        number = r .number;
+        tracked = owned (r .placed) ∙ mine;
+        only = λ q′ a′ lo′ hi′ h′ t′ e′.
             let r′ : Reached b (start / 4096) (length ram / 4096) q′ (a′ / 4096) t′ P = reached q′ a′ lo′ hi′ h′ t′ P e′ in
-            let s′ : (j : ℕ) × (i : ℕ) × (r′ .page ≡ sectionPage q′ j i) = r′ .own-section u′ in
             let w : holds (r′ .page) ≡ holds (r .page)
             = one-use b (length ram / 4096) _ _ (r′ .placed) (r .placed) (omega (arith, r .number, r′ .number)) in
             let d : r′ .page ≡ r .page = cc in
-            let p : sectionPage q′ (s′ .0) (s′ .1) ≡ sectionPage q (s .0) (s .1) = sym (s′ .2) ∙ d ∙ s .2 in
-            (cc, sym (r′ .home) ∙ ap (homeOf b) d ∙ r .home),
-      )
+            let o : choose (t′ .user) q′ 1 ≡ q = sym (r′ .owner-is) ∙ ap dataOwner d ∙ mine in (
+              by-choose (λ x. x ≡ q → q′ ≡ q) (t′ .user) q′ 1 (λ _ z. z) (λ _ z. absurd (r .user u (sym z))) o,
+              sym (r′ .home) ∙ ap (homeOf b) d ∙ r .home,
+            );
+      }
 
   total-pages : {n : ℕ} → n ≡ pagesNeeded b (length ram / 4096) → n + freePages b (length ram / 4096) ≡ length ram / 4096
   unfolding freePages
   total-pages e = omega (arith, facts .room .enough)
 
-  -- OWNERS' PAGES AND FREE PAGES ADD UP TO RAM: counted by the order of pages, and the same by the tracker's bytes for RAM's pages,
-  -- owner by owner. Taken and free in the answer are these counts, the four pages at the top among those taken
-  pub record Sum : Type 0 where
-    pub total : sum (processCount b) (λ i. pagesOf b (length ram / 4096) (i + 1)) + freePages b (length ram / 4096) ≡ length ram / 4096
-    pub tracked : (q : ℕ) → 1 ≤ q → count (λ x. eqb x q) (take (length ram / 4096) (tracker b (length ram / 4096))) ≡ pagesOf b (length ram / 4096) q
-    pub tracked-free : count (λ x. eqb x 0) (take (length ram / 4096) (tracker b (length ram / 4096))) ≡ freePages b (length ram / 4096)
-    pub taken : answer b (length flash) start (length ram) .taken ≡ sum (processCount b) (λ i. pagesOf b (length ram / 4096) (i + 1))
-    pub free : answer b (length flash) start (length ram) .free ≡ freePages b (length ram / 4096)
-
-  pub pages-add-up : Sum
+  -- OWNERS' PAGES AND FREE PAGES ADD UP TO RAM
+  pub pages-add-up : AddUp b (length ram / 4096) (answer b (length flash) start (length ram))
   unfolding boots answer answerTo
   pages-add-up =
       let n : sum (processCount b) (λ i. pagesOf b (length ram / 4096) (i + 1)) ≡ pagesNeeded b (length ram / 4096) = owners-sum b _ (facts .processes) in
       record {
         total = total-pages n;
-        tracked = λ q lo. tracker-count-owner b _ q lo (facts .room .enough);
-        tracked-free = tracker-count-free b _ (facts .processes) (facts .room .enough);
         taken = ap (λ (a : Answer). a .taken) (choose-yes _ _ booted) ∙ sym n;
         free = ap (λ (a : Answer). a .free) (choose-yes _ _ booted);
+        tracked = λ q lo. tracker-count-owner b _ q lo (facts .room .enough);
+        tracked-free = tracker-count-free b _ (facts .processes) (facts .room .enough);
       }
 
   -- PAGES NOT TAKEN AND THE FOUR AT THE TOP KEEP THEIR BYTES

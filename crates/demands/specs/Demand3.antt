@@ -131,7 +131,7 @@ same-view : (b flash track track′ : List ℕ) (s s′ : ℕ → ℕ) (T q a : 
 unfolding viewOf byteAt
 same-view b flash track track′ s s′ T q a no-tracker no-satp =
     by-mapping (λ m. viewOf (byteAt b flash track s a) m ≡ viewOf (byteAt b flash track′ s′ a) m) b T q (a / 4096)
-    refl refl (λ j _ _. refl) (λ j _ _. refl) (λ _. refl) (λ e. cc) (λ e. rw (same-list b s s′ a e no-satp))
+    refl (λ _ _. refl) (λ _ _ _ _. refl) (λ _ _ _. refl) (λ _. refl) (λ e. cc) (λ e. rw (same-list b s s′ a e no-satp))
 
 wider : (T T′ v : ℕ) → T ≤ T′ → inTracker T v ≡ true → inTracker T′ v ≡ true
 unfolding inTracker

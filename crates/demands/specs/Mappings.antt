@@ -11,8 +11,8 @@ use Rattle.notation.specs.Choice.{choose}
 use Rattle.notation.specs.Lists.{exists}
 use Rattle.rules.specs.Block.{processCount, sectionsOf, sectionRecord, firstPage, lastPage, pageCount, writable, executable}
 use Rattle.rules.specs.Space.{Data, sectionPage, trackerPage, processList, blockCopy, Mapping, unmapped, stack, maps, hasPage, sectionMapping, sectionAtPage, inTracker, kernelPage, inStack, userPage, mappingAt}
-use Rattle.rules.specs.Order.{holds, order, slotsOf, inSlots, hasLeaf}
-use Rattle.laws.specs.Choice.{by-test, by-choose, and-left, and-right, and-both, choose-or}
+use Rattle.rules.specs.Order.{holds, order, slotsOf, inSlots, hasLeaf, dataOwner}
+use Rattle.laws.specs.Choice.{false-not-true, by-test, by-choose, and-left, and-right, and-both, choose-or}
 use Rattle.laws.specs.Lists.{Occurs, by-find-last, exists-hit, some-of-tab}
 use Rattle.placement.specs.Uses.{order-section, order-tracker, order-process-list, order-block-copy}
 
@@ -32,15 +32,15 @@ pub in-tracker-last : (T v : ℕ) → inTracker T v ≡ true → v < 0xFFF40 + T
 unfolding inTracker
 in-tracker-last T v e = ltb-true _ _ (and-right (leb 0xFFF40 v) _ e)
 
-in-stack-slot : (v : ℕ) → inStack v ≡ true → v / 1024 ≡ 511
+pub in-stack-slot : (v : ℕ) → inStack v ≡ true → v / 1024 ≡ 511
 unfolding inStack
 in-stack-slot v e = omega (arith, leb-true 0x7FFFC v (and-left _ (leb v 0x7FFFF) e), leb-true v 0x7FFFF (and-right (leb 0x7FFFC v) _ e))
 
--- THE CASES. A page with the user right is of a section of the process itself
+-- THE CASES. A page with the user right is of a section of the process itself, which is not the kernel
 module _ (P : Mapping → Type 0) (b : List ℕ) (T q v : ℕ)
     (p-unmapped : P unmapped)
-    (p-stack : P stack)
-    (p-user : (j : ℕ) → let n = sectionRecord b q j in j < sectionsOf b q → hasPage b v n ≡ true
+    (p-stack : q ≢ 1 → inStack v ≡ true → P stack)
+    (p-user : q ≢ 1 → (j : ℕ) → let n = sectionRecord b q j in j < sectionsOf b q → hasPage b v n ≡ true
     → P (maps (sectionPage q j (v - firstPage b n)) (writable b n) (executable b n) true))
     (p-kernel : (j : ℕ) → let n = sectionRecord b 1 j in j < sectionsOf b 1 → hasPage b v n ≡ true
     → P (maps (sectionPage 1 j (v - firstPage b n)) (writable b n) (executable b n) false))
@@ -63,7 +63,7 @@ module _ (P : Mapping → Type 0) (b : List ℕ) (T q v : ℕ)
       (λ _. by-choose P (eqb v 0xFFF00) _ _ (λ e. p-block-copy (eqb-true v 0xFFF00 e))
       (λ _. at-section 1 false p-kernel))))
       (λ _. by-choose P (eqb q 1) _ _ (λ _. p-unmapped)
-      (λ _. by-choose P (inStack v) _ _ (λ _. p-stack) (λ _. at-section q true p-user)))
+      (λ u. by-choose P (inStack v) _ _ (p-stack (eqb-false q 1 u)) (λ _. at-section q true (p-user (eqb-false q 1 u)))))
 
 -- every page of data that stands somewhere is in the order, and stands at its one virtual page
 unfoldable pub homeOf : List ℕ → Data → ℕ
@@ -88,24 +88,24 @@ section-at-home b T q v j lo hi l e =
 pub at-home : (b : List ℕ) (T q v : ℕ) → 1 ≤ q → q ≤ processCount b → AtHome b T v (mappingAt b T q v)
 unfolding homeOf
 at-home b T q v lo hi =
-    by-mapping (AtHome b T v) b T q v tt tt
-    (λ j l e. section-at-home b T q v j lo hi l e)
+    by-mapping (AtHome b T v) b T q v tt (λ _ _. tt)
+    (λ _ j l e. section-at-home b T q v j lo hi l e)
     (λ j l e. section-at-home b T 1 v j (omega arith) (omega arith) l e)
     (λ e. (order-block-copy b T, sym e))
     (λ e. (order-tracker b T (v - 0xFFF40) (omega (arith, in-tracker-first T v e, in-tracker-last T v e)), omega (arith, in-tracker-first T v e)))
     (λ e. (order-process-list b T, sym e))
 
--- a page with the user right is a page of one of the process's own sections
+-- whose page it is: with the user right the process's own, which is not the kernel; without it the kernel's
 abbrev pub Own : ℕ → Mapping → Type 0
 Own q unmapped = Unit {0}
 Own q stack = Unit {0}
-Own q (maps d w x u) = u ≡ true → (j : ℕ) × (i : ℕ) × (d ≡ sectionPage q j i)
+Own q (maps d w x u) = (dataOwner d ≡ choose u q 1) × (u ≡ true → q ≢ 1)
 
 pub own : (b : List ℕ) (T q v : ℕ) → Own q (mappingAt b T q v)
-own b T q v = by-mapping (Own q) b T q v tt tt (λ j _ _ _. (j, _, refl)) (λ j _ _ e. absurd (true-false e)) (λ _ e. absurd (true-false e)) (λ _ e. absurd (true-false e)) (λ _ e. absurd (true-false e))
-  where
-    true-false : false ≡ true → ⊥
-    true-false e = let z : _≡_ {A = ℕ} 0 1 = cc in omega arith
+unfolding dataOwner choose
+own b T q v =
+    by-mapping (Own q) b T q v tt (λ _ _. tt) (λ user _ _ _. (refl, λ _. user)) (λ _ _ _. (refl, false-not-true refl)) (λ _. (refl, false-not-true refl)) (λ _. (refl, false-not-true refl))
+    (λ _. (refl, false-not-true refl))
 
 -- WHERE A PROCESS HAS NO LEAF TABLE, NOTHING STANDS
 in-root-slot : (b : List ℕ) (v n : ℕ) → hasPage b v n ≡ true → inSlots (v / 1024) (slotsOf b n) ≡ true

@@ -3,6 +3,7 @@ use mathlib.Core.Path.{_≡_, refl}
 use mathlib.Core.Bool.{Bool, true, false, _&&_, _||_}
 use mathlib.Core.List.{List, [], _∷_}
 use Prim.Native.Nat.{ℕ, zero, suc, _<_}
+use native.Mathlib.Omega.{arith}
 use lib.ListN.{getD}
 use Rattle.notation.specs.Choice.{choose, any}
 
@@ -10,6 +11,10 @@ use Rattle.notation.specs.Choice.{choose, any}
 pub by-test : (P : Bool → Type 0) (c : Bool) → (c ≡ true → P true) → (c ≡ false → P false) → P c
 by-test P true f g = f refl
 by-test P false f g = g refl
+
+-- a test that does not pass does not pass
+pub false-not-true : {A : Type 0} {c : Bool} → c ≡ false → c ≡ true → A
+false-not-true e f = let z : _≡_ {A = ℕ} 0 1 = cc in absurd (omega arith)
 
 -- by cases on a choice
 pub by-choose : {A : Type 0} (P : A → Type 0) (c : Bool) (x y : A) → (c ≡ true → P x) → (c ≡ false → P y) → P (choose c x y)
@@ -50,6 +55,13 @@ and-right false c e = cc
 
 pub and-both : {a c : Bool} → a ≡ true → c ≡ true → (a && c) ≡ true
 and-both e f = rw (e, f)
+
+pub and-not-left : {a : Bool} (c : Bool) → a ≡ false → (a && c) ≡ false
+and-not-left c e = rw e
+
+pub and-not-right : (a : Bool) {c : Bool} → c ≡ false → (a && c) ≡ false
+and-not-right true e = e
+and-not-right false e = refl
 
 -- the second of two tests that do not both pass, where the first does
 pub and-rest : {a c : Bool} → a ≡ true → (a && c) ≡ false → c ≡ false

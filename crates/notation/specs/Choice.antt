@@ -11,3 +11,8 @@ choose false x y = y
 unfoldable pub any : List Bool → Bool
 any [] = false
 any (t ∷ ts) = t || any ts
+
+-- all definitions of this file, to be unfolded as one
+unfoldable pub choices : Unit {0}
+unfolding choose any
+choices = tt

@@ -51,3 +51,8 @@ findLast t (suc n) = let m = findLast t n in choose (t n) (some n) m
 unfoldable pub exists : (ℕ → Bool) → ℕ → Bool
 exists t zero = false
 exists t (suc n) = let m = exists t n in choose (t n) true m
+
+-- all definitions of this file, to be unfolded as one
+unfoldable pub lists : Unit {0}
+unfolding tab gather lookup countBefore count someOf sum findLast exists
+lists = tt

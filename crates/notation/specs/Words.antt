@@ -16,3 +16,8 @@ byteOf n c = n / 256 ^ c % 256
 -- the bit of weight k of the word n is set
 abbrev pub bit : ℕ → ℕ → Bool
 bit n k = eqb (n / k % 2) 1
+
+-- all definitions of this file, to be unfolded as one
+unfoldable pub words : Unit {0}
+unfolding word byteOf
+words = tt

@@ -22,8 +22,8 @@ use Rattle.laws.specs.Choice.{by-choose, choose-yes, and-both}
 use Rattle.laws.specs.Lists.{Every, Absent, every-append, every-tab, every-gather}
 use Rattle.laws.specs.Counts.{one-yes, sum-same, sum-first, count-nil, count-cons, count-none}
 use Rattle.placement.specs.Places.{processPages, userPages, user-pages-none, user-pages-next, section-uses-length}
-use Rattle.demands.specs.Demand1.{boots-where-no-cause-holds}
-use Rattle.demands.specs.Boot.{from-checks}
+use Rattle.demands.specs.NoCause.{no-cause}
+use Rattle.demands.specs.Boot.{boot}
 use Rattle.demands.specs.Counting.{owners-sum}
 use Rattle.roots.specs.declared.Root.{Root}
 use Rattle.roots.specs.declared.Root.the-variants.{Nowhere, At}
@@ -158,5 +158,5 @@ pub booted-kernel : (b : List ℕ) (flash start len : ℕ) (a : Answer) {kernel 
     → (verdict b flash start len .number ≡ 0) × (kernel ≡ pagesOf b (len / 4096) 1)
 booted-kernel b flash start len a e z h =
     let known = booted b flash start len (rw e at z) in
-    let some : 1 ≤ processCount b = from-checks b flash start len (boots-where-no-cause-holds b flash start len .0 (known .0)) .processes in
+    let some : 1 ≤ processCount b = boot b flash start len (no-cause b flash start len (known .0)) .processes in
     (known .0, omega (arith, rw e at h, known .1, owners-add b (len / 4096) some))

@@ -122,3 +122,8 @@ ioPagesOf b n = sum n (regionPages b)
 
 unfoldable pub ioPages : List ℕ → ℕ
 ioPages b = ioPagesOf b (regionCount b)
+
+-- all definitions of this file, to be unfolded as one
+unfoldable pub block-rules : Unit {0}
+unfolding format lengthField processCount processOffset sectionCount sectionOffset regionCount regionOffset sectionsAt regionsAt tightLength processAt entryPoint firstSection sectionsOf kind sectionRecord sectionAt address size flashOffset flags noCopy writable executable sectionEnd firstPage lastPage pageCount regionAt regionStart regionPages regionEnd ioPagesOf ioPages
+block-rules = tt

@@ -45,3 +45,8 @@ dataByte b flash track satp (sectionPage q j i) k = sectionPageByte b flash (sec
 dataByte b flash track satp (trackerPage i) k = getD track (4096 * i + k) 0
 dataByte b flash track satp processList k = processListByte b satp k
 dataByte b flash track satp blockCopy k = getD b k 0
+
+-- all definitions of this file, to be unfolded as one
+unfoldable pub content-rules : Unit {0}
+unfolding sectionPageByte tracker stackPointer processWord processListByte dataByte
+content-rules = tt

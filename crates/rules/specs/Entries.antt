@@ -50,3 +50,8 @@ unfoldable pub decode : ℕ → Entry
 decode e =
     choose (eqb (e % 2) 0) (choose (eqb e 22) Reserved Absent)
     (choose (eqb (e / 2 % 8) 0) (Pointer (record { 0 = e / 1024 })) (Page (rightsIn e) (record { 0 = e / 1024 })))
+
+-- all definitions of this file, to be unfolded as one
+unfoldable pub entry-rules : Unit {0}
+unfolding absentEntry reservedEntry pointerEntry pageEntry rightsIn decode
+entry-rules = tt

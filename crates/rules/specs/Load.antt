@@ -59,3 +59,8 @@ answerTo v b N = choose (eqb (v .number) 0)
 -- the full answer for an image of `flash` bytes and RAM of `len` bytes from `start` on: it depends on nothing else of them
 unfoldable pub answer : List ℕ → ℕ → ℕ → ℕ → Answer
 answer b flash start len = answerTo (verdict b flash start len) b (len / 4096)
+
+-- all definitions of this file, to be unfolded as one
+unfoldable pub load-rules : Unit {0}
+unfolding physPage satpWord tableByte pageByte loaded boots ramAfter answerTo answer
+load-rules = tt

@@ -4,18 +4,14 @@ use mathlib.Core.Bool.{Bool, true, _&&_}
 use mathlib.Core.List.{List, [], _∷_}
 use Prim.Native.Nat.{ℕ, _*_}
 use lib.Dec.{eqb}
-use Rattle.notation.specs.Choice.{choose, any}
-use Rattle.notation.specs.Lists.{tab, gather, sum, exists, someOf, findLast}
-use Rattle.notation.specs.Words.{word, byteOf}
+use Rattle.notation.specs.Choice.{choices}
+use Rattle.notation.specs.Lists.{lists}
+use Rattle.notation.specs.Words.{byteOf, words}
 use Rattle.types.specs.declared.Answer.{Answer}
-use Rattle.rules.specs.Block.{format, lengthField, processCount, processOffset, sectionCount, sectionOffset, regionCount, regionOffset, sectionsAt, regionsAt, tightLength}
-use Rattle.rules.specs.Block.{processAt, entryPoint, firstSection, sectionsOf, kind, sectionRecord, sectionAt, address, size, flashOffset, flags, noCopy, writable, executable, sectionEnd}
-use Rattle.rules.specs.Block.{firstPage, lastPage, pageCount, regionAt, regionStart, regionPages, regionEnd, ioPagesOf, ioPages}
-use Rattle.rules.specs.Order.{sectionUses, slotsOf, inSlots, hasLeaf, tableUses, order, pagesFor, trackerPages, uses, pagesNeeded, freePages}
-use Rattle.rules.specs.Refusals.{ramUnfit, blockTooShort, formatUnknown, outside, countsOutOfBounds, layoutNotTight, sectionsBefore, processUnfit, sectionUnfit, hasSection, ownerOf}
-use Rattle.rules.specs.Refusals.{rangeFirst, rangeLast, sectionMisplaced, sectionPastFlash, entryPointOutside, shareAddress, regionUnfit, ramTooSmall}
-use Rattle.rules.specs.Refusals.{refused, accepted, firstRecord, firstRefusal, sectionRefusal, checks, verdict}
-use Rattle.rules.specs.Load.{answerTo, answer}
+use Rattle.rules.specs.Block.{block-rules}
+use Rattle.rules.specs.Order.{order-rules}
+use Rattle.rules.specs.Refusals.{refusal-rules}
+use Rattle.rules.specs.Load.{answer, load-rules}
 
 -- the bytes of words
 unfoldable pub bytes : List ℕ → List ℕ
@@ -74,7 +70,12 @@ marked =
     ∷ record { block = board 0x0001_0020 0x0002_0000 0x4001_0000; flash = 320; pages = 16; number = 0; place = 0; free = 1 }
     ∷ []
 
+-- the definitions above, to be unfolded as one
+unfoldable pub examples : Unit {0}
+unfolding bytes board smallBoard given exampleHolds allHold marked
+examples = tt
+
 -- all examples hold
 pub P1-to-P12 : allHold marked ≡ true
-unfolding allHold exampleHolds given marked smallBoard board bytes answer answerTo verdict checks firstRefusal firstRecord refused accepted sectionRefusal ramUnfit blockTooShort formatUnknown outside countsOutOfBounds layoutNotTight sectionsBefore processUnfit sectionUnfit hasSection ownerOf rangeFirst rangeLast sectionMisplaced sectionPastFlash entryPointOutside shareAddress regionUnfit ramTooSmall sectionUses slotsOf inSlots hasLeaf tableUses order pagesFor trackerPages uses pagesNeeded freePages format lengthField processCount processOffset sectionCount sectionOffset regionCount regionOffset sectionsAt regionsAt tightLength processAt entryPoint firstSection sectionsOf kind sectionRecord sectionAt address size flashOffset flags noCopy writable executable sectionEnd firstPage lastPage pageCount regionAt regionStart regionPages regionEnd ioPagesOf ioPages word byteOf choose any tab gather sum exists someOf findLast
+unfolding examples load-rules refusal-rules order-rules block-rules words lists choices
 P1-to-P12 = refl

@@ -114,3 +114,8 @@ owner (some u) = useOwner u
 -- the pages of process q, the four at the top among the kernel's
 unfoldable pub pagesOf : List ℕ → ℕ → ℕ → ℕ
 pagesOf b N q = count (λ u. eqb (useOwner u) q) (uses b N)
+
+-- all definitions of this file, to be unfolded as one
+unfoldable pub order-rules : Unit {0}
+unfolding sectionUses slotsOf inSlots hasLeaf tableUses order pagesFor trackerPages uses pagesNeeded freePages useOf sameUse ramPage dataOwner useOwner owner pagesOf
+order-rules = tt

@@ -182,3 +182,8 @@ checks b flash start len =
 -- the first in this order wins
 unfoldable pub verdict : List ℕ → ℕ → ℕ → ℕ → Verdict
 verdict b flash start len = firstRefusal (checks b flash start len)
+
+-- all definitions of this file, to be unfolded as one
+unfoldable pub refusal-rules : Unit {0}
+unfolding ramUnfit blockTooShort formatUnknown outside countsOutOfBounds layoutNotTight sectionsBefore processUnfit sectionUnfit hasSection ownerOf rangeFirst rangeLast sectionMisplaced sectionPastFlash entryPointOutside shareAddress regionUnfit ramTooSmall refused accepted firstRecord firstRefusal sectionRefusal checks verdict
+refusal-rules = tt

@@ -1,15 +1,16 @@
 -- 01, "What the promises have to decide": what a process sees at a 32-bit address, by the rules alone and drawn from the reader.
-use mathlib.Core.Bool.{Bool, true, _&&_}
+use mathlib.Core.Bool.{Bool, true, not, _&&_}
 use mathlib.Core.List.{List}
 use Prim.Native.Nat.{ℕ, _+_, _-_, _*_, _/_, _%_}
 use lib.ListN.{length, getD}
-use lib.Dec.{leb, ltb}
+use lib.Dec.{leb, ltb, eqb}
 use Rattle.notation.specs.Choice.{choose}
+use Rattle.types.specs.declared.Rights.{Rights}
 use Rattle.types.specs.declared.Entry.{Entry}
 use Rattle.types.specs.declared.Entry.the-variants as E
 use Rattle.types.specs.declared.View.{View}
 use Rattle.types.specs.declared.View.the-variants.{Absent, Reserved, Page, Outside}
-use Rattle.rules.specs.Block.{sectionRecord, address, sectionEnd, flashOffset, noCopy}
+use Rattle.rules.specs.Block.{sectionRecord, address, sectionEnd, flashOffset, noCopy, writable, executable}
 use Rattle.rules.specs.Space.{Data, sectionPage, trackerPage, processList, blockCopy, Mapping, unmapped, stack, maps, mappingAt}
 use Rattle.rules.specs.Order.{rootTable, pagesFor}
 use Rattle.rules.specs.Contents.{processListByte}
@@ -39,6 +40,14 @@ viewOf byte (maps d write execute user) = Page (record { read = true; write = wr
 unfoldable pub sees : List ℕ → List ℕ → List ℕ → (ℕ → ℕ) → ℕ → ℕ → View
 sees b flash track satp q a = viewOf (byteAt b flash track satp a) (mappingAt b (pagesFor (length track)) q (a / 4096))
 
+-- what process q is to see of byte k of one of its sections, record n: a page with the section's rights, user for all but process 1, and
+-- the byte at its flash offset + k, or 0 with NOCOPY
+unfoldable pub sectionRights : List ℕ → ℕ → ℕ → Rights
+sectionRights b q n = record { read = true; write = writable b n; execute = executable b n; user = not (eqb q 1) }
+
+unfoldable pub sectionView : List ℕ → List ℕ → ℕ → ℕ → ℕ → View
+sectionView b flash q n k = Page (sectionRights b q n) (choose (noCopy b n) 0 (getD flash (flashOffset b n + k) 0))
+
 -- DRAWN FROM THE READER
 -- physical address x is in RAM
 unfoldable pub inRam : List ℕ → ℕ → ℕ → Bool
@@ -65,3 +74,8 @@ rootOf b start ram q = physPage b (start / 4096) (length ram / 4096) (rootTable 
 -- what process q sees after the call
 unfoldable pub processSees : List ℕ → List ℕ → ℕ → List ℕ → ℕ → ℕ → View
 processSees b flash start ram q a = seenFrom (ramAfter b flash start ram) start (rootOf b start ram q) a
+
+-- all definitions of this file, to be unfolded as one
+unfoldable pub view-rules : Unit {0}
+unfolding sectionByte byteAt viewOf sees sectionRights sectionView inRam shown seenFrom rootOf processSees
+view-rules = tt

@@ -1,20 +1,20 @@
--- 01, "The small board, whole": its figures, as one claim. (The owner of a user process's tables and the satp words stand in no demand.)
+-- 01, "The small board, whole": its figures, as one claim. (The owner of a user process's tables and the words of the process list stand
+-- in no demand.)
 use mathlib.Core.Path.{_≡_, refl}
 use mathlib.Core.List.{[], _∷_}
-use Prim.Native.Nat.{ℕ}
+use Prim.Native.Nat.{ℕ, _*_}
 use native.Mathlib.Decide.{ℕ-discrete}
-use Rattle.notation.specs.Choice.{choose}
-use Rattle.notation.specs.Lists.{tab, gather, sum, someOf, findLast, lookup, countBefore, count}
-use Rattle.notation.specs.Words.{word, byteOf}
-use Rattle.rules.specs.Block.{processCount, sectionCount, regionCount, sectionsAt, regionsAt, processAt, firstSection, sectionsOf, sectionRecord, sectionAt, address, size, flags, writable, executable}
-use Rattle.rules.specs.Block.{sectionEnd, firstPage, lastPage, pageCount, regionAt, regionPages, ioPagesOf, ioPages}
-use Rattle.rules.specs.Space.{sectionPage, trackerPage, processList, blockCopy, hasPage, sectionMapping, sectionAtPage, inTracker, kernelPage, inStack, userPage, mappingAt}
-use Rattle.rules.specs.Order.{Use, holds, rootTable, leafTable, sectionUses, slotsOf, inSlots, hasLeaf, tableUses, order, pagesFor, trackerPages, uses, pagesNeeded, freePages, useOf, sameUse, ramPage, dataOwner, useOwner, owner, pagesOf}
-use Rattle.rules.specs.Entries.{absentEntry, reservedEntry, pointerEntry, pageEntry}
-use Rattle.rules.specs.Tables.{rootEntry, entryFor, leafEntry}
-use Rattle.rules.specs.Contents.{tracker}
-use Rattle.rules.specs.Load.{physPage, satpWord}
-use Rattle.rules.specs.Marked.{bytes, board, smallBoard}
+use Rattle.notation.specs.Choice.{choices}
+use Rattle.notation.specs.Lists.{tab, lists}
+use Rattle.notation.specs.Words.{word, words}
+use Rattle.rules.specs.Block.{block-rules}
+use Rattle.rules.specs.Space.{sectionPage, trackerPage, processList, blockCopy, space-rules}
+use Rattle.rules.specs.Order.{Use, holds, rootTable, leafTable, trackerPages, pagesNeeded, freePages, ramPage, pagesOf, order-rules}
+use Rattle.rules.specs.Entries.{entry-rules}
+use Rattle.rules.specs.Tables.{rootEntry, leafEntry, table-rules}
+use Rattle.rules.specs.Contents.{tracker, processListByte, content-rules}
+use Rattle.rules.specs.Load.{physPage, satpWord, load-rules}
+use Rattle.rules.specs.Marked.{smallBoard, examples}
 
 -- RAM of 16 pages at 0x40000000: the RAM page and the physical page of a use
 unfoldable pub page : Use → ℕ
@@ -35,7 +35,9 @@ pub record SmallBoard : Type 0 where
   -- the root's entries at 0, 511, 1,023
   pub root-entries : rootEntry smallBoard phys 2 0 ∷ rootEntry smallBoard phys 2 511 ∷ rootEntry smallBoard phys 2 1023 ∷ []
       ≡ 0x1000_0801 ∷ 0x1000_0401 ∷ 0x1000_1001 ∷ []
-  pub satp-words : satpWord smallBoard 0x40000 16 1 ∷ satpWord smallBoard 0x40000 16 2 ∷ [] ≡ 0x8044_0005 ∷ 0x8084_0003 ∷ []
+  -- the process list: satp, entry point and stack pointer of the kernel, then of process 2
+  pub process-list : tab 6 (λ w. word (tab 24 (processListByte smallBoard (satpWord smallBoard 0x40000 16))) (4 * w))
+      ≡ 0x8044_0005 ∷ 0xFFC0_0010 ∷ 0 ∷ 0x8084_0003 ∷ 0x0001_0020 ∷ 0x8000_0000 ∷ []
   -- page 0 free, then the kernel's, A and B of process 2, the four at the top, and two I/O pages
   pub tracker-bytes : tracker smallBoard 16 ≡ 0 ∷ 1 ∷ 1 ∷ 1 ∷ 1 ∷ 1 ∷ 1 ∷ 1 ∷ 1 ∷ 1 ∷ 2 ∷ 2 ∷ 1 ∷ 1 ∷ 1 ∷ 1 ∷ 0 ∷ 0 ∷ []
   -- 15 pages taken, one free; one is the tracker's
@@ -44,13 +46,13 @@ pub record SmallBoard : Type 0 where
   pub owners-pages : pagesOf smallBoard 16 1 ∷ pagesOf smallBoard 16 2 ∷ [] ≡ 13 ∷ 2 ∷ []
 
 pub small-board : SmallBoard
-unfolding ℕ-discrete page phys smallBoard board bytes ramPage physPage satpWord tracker pagesOf leafEntry rootEntry entryFor absentEntry reservedEntry pointerEntry pageEntry mappingAt userPage inStack kernelPage inTracker sectionAtPage sectionMapping hasPage uses pagesNeeded freePages useOf sameUse order tableUses hasLeaf slotsOf inSlots sectionUses pagesFor trackerPages dataOwner useOwner owner processCount sectionCount regionCount sectionsAt regionsAt processAt firstSection sectionsOf sectionRecord sectionAt address size flags writable executable sectionEnd firstPage lastPage pageCount regionAt regionPages ioPagesOf ioPages word byteOf choose tab gather sum someOf findLast lookup countBefore count
+unfolding ℕ-discrete page phys examples load-rules content-rules table-rules entry-rules order-rules space-rules block-rules words lists choices
 small-board = record {
   data-pages = refl;
   table-pages = refl;
   leaf-entries = refl;
   root-entries = refl;
-  satp-words = refl;
+  process-list = refl;
   tracker-bytes = refl;
   page-counts = refl;
   owners-pages = refl;

@@ -63,3 +63,8 @@ userPage b q v = choose (inStack v) stack (sectionAtPage b q v true)
 -- what stands at virtual page v of process q, where the tracker has T pages
 unfoldable pub mappingAt : List ℕ → ℕ → ℕ → ℕ → Mapping
 mappingAt b T q v = choose (eqb (v / 1024) 1023) (kernelPage b T v) (choose (eqb q 1) unmapped (userPage b q v))
+
+-- all definitions of this file, to be unfolded as one
+unfoldable pub space-rules : Unit {0}
+unfolding hasPage sectionMapping sectionAtPage inTracker kernelPage inStack userPage mappingAt
+space-rules = tt

@@ -21,3 +21,8 @@ entryFor phys (maps d write execute user) = pageEntry (phys (holds d)) write exe
 -- entry i of the leaf table of process q for root slot m, where the tracker has T pages
 unfoldable pub leafEntry : List ℕ → ℕ → (Use → ℕ) → ℕ → ℕ → ℕ → ℕ
 leafEntry b T phys q m i = entryFor phys (mappingAt b T q (1024 * m + i))
+
+-- all definitions of this file, to be unfolded as one
+unfoldable pub table-rules : Unit {0}
+unfolding rootEntry entryFor leafEntry
+table-rules = tt

@@ -14,8 +14,8 @@ use Rattle.rules.specs.Block.{processCount}
 use Rattle.rules.specs.Refusals.{verdict}
 use Rattle.rules.specs.Load.{boots, ramAfter, answerTo, answer}
 use Rattle.rules.specs.Sees.{seenFrom, rootOf, processSees}
-use Rattle.laws.specs.Choice.{by-choose, choose-yes, choose-map}
-use Rattle.demands.specs.Demand2.{sees-what-the-rules-give}
+use Rattle.laws.specs.Choice.{by-choose, and-both, choose-yes, choose-map}
+use Rattle.demands.specs.Demand2.{sees-what-the-rules-give, sees-exactly, one-owner-one-virtual-page, pages-add-up}
 use Rattle.demands.specs.Demand3.{SameOnBoth, boots-on-larger-ram, same-on-both}
 use Rattle.roots.specs.declared.Root.{Root}
 use Rattle.roots.specs.declared.Root.the-variants.{At}
@@ -37,20 +37,6 @@ unfolding rootFound seenAfter boots processSees rootOf
 found-seen b flash start ram r q a root e l =
     rw (e, l) (choose-map (λ (x : Root). seenAt x (ramAfter b flash start ram) start a) (eqb (verdict b (length flash) start (length ram) .number) 0 && isProcess b q) _ _)
 
-pub one-board : (b flash : List ℕ) (start : ℕ) (ram exit : List ℕ) (q a : ℕ) (root : Root) (full : Answer) (seen : View) → a < 0x1_0000_0000
-    → root ≡ rootFound b (length flash) start (length ram) q → full ≡ answer b (length flash) start (length ram) → exit ≡ ramAfter b flash start ram
-    → seen ≡ seenAt root exit start a → OneBoard b flash start ram exit q a (record { answer = full; seen = seen })
-unfolding seenAfter
-one-board b flash start ram exit q a root full seen h er ea ex es =
-    let s : seen ≡ seenAfter b flash start ram q a = es ∙ found-seen b flash start ram exit q a root er ex in
-    record {
-      answers = ea;
-      leaves = ex;
-      shows = s;
-      demand-2 = λ e lo hi.
-          s ∙ rw (e, is-process b q lo hi) (choose-yes _ _ refl) ∙ sees-what-the-rules-give b flash start ram e q a lo hi h .0;
-    }
-
 -- the number of an answer is that of the verdict
 answer-number : (b : List ℕ) (flash start len : ℕ) → answer b flash start len .number ≡ verdict b flash start len .number
 unfolding answer answerTo
@@ -65,6 +51,28 @@ booted b flash start ram full e z =
 number-of : (b flash : List ℕ) (start : ℕ) (ram : List ℕ) (full : Answer) → full ≡ answer b (length flash) start (length ram)
     → full .number ≡ verdict b (length flash) start (length ram) .number
 number-of b flash start ram full e = ap (λ (a : Answer). a .number) e ∙ answer-number b (length flash) start (length ram)
+
+pub one-board : (b flash : List ℕ) (start : ℕ) (ram exit : List ℕ) (q a : ℕ) (root : Root) (full : Answer) (seen : View) → a < 0x1_0000_0000
+    → root ≡ rootFound b (length flash) start (length ram) q → full ≡ answer b (length flash) start (length ram) → exit ≡ ramAfter b flash start ram
+    → seen ≡ seenAt root exit start a → OneBoard b flash start ram exit q a (record { answer = full; seen = seen })
+unfolding seenAfter
+one-board b flash start ram exit q a root full seen h er ea ex es =
+    let s : seen ≡ seenAfter b flash start ram q a = es ∙ found-seen b flash start ram exit q a root er ex in
+    record {
+      answers = ea;
+      leaves = ex;
+      shows = s;
+      demand-2 = λ z.
+          let e : boots b flash start ram ≡ true = booted b flash start ram full ea z in
+          let p : 1 ≤ q → q ≤ processCount b → seen ≡ processSees b flash start ram q a
+          = λ lo hi. s ∙ choose-yes _ _ (and-both e (is-process b q lo hi)) in
+          record {
+            views = λ lo hi. p lo hi ∙ sees-what-the-rules-give b flash start ram e q a lo hi h .0;
+            exactly = λ lo hi. rw (p lo hi) (sees-exactly b flash start ram e q a lo hi h);
+            one-owner = rw ex (one-owner-one-virtual-page b flash start ram e);
+            pages = rw ea (pages-add-up b flash start ram e);
+          };
+    }
 
 pub two-boards : (b flash : List ℕ) (start start′ : ℕ) (ram ram′ exit exit′ : List ℕ) (q a : ℕ) (one two : Board) → a < 0x1_0000_0000
     → OneBoard b flash start ram exit q a one → OneBoard b flash start′ ram′ exit′ q a two

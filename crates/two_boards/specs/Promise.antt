@@ -1,5 +1,5 @@
--- DEMAND 3 of the code: what two calls of the loader with the same block and flash, each on a RAM of its own, promise for process q
--- at address a.
+-- DEMANDS 2 AND 3 of the code: what one call of the loader, and two calls with the same block and flash, each on a RAM of its own, promise
+-- for process q at address a.
 use mathlib.Core.Path.{_≡_}
 use mathlib.Core.Logic.{_≢_}
 use mathlib.Core.Bool.{true, _&&_}
@@ -15,6 +15,8 @@ use Rattle.rules.specs.Contents.{tracker}
 use Rattle.rules.specs.Load.{satpWord, boots, ramAfter, answer}
 use Rattle.rules.specs.Sees.{sees, seenFrom, processSees}
 use Rattle.rules.specs.Compare.{compared, Agree}
+use Rattle.demands.specs.Exactly.{Exactly}
+use Rattle.demands.specs.Demand2.{OneOwnerEach, AddUp}
 use Rattle.roots.specs.declared.Root.{Root}
 use Rattle.roots.specs.declared.Root.the-variants.{Nowhere, At}
 use Rattle.roots.specs.Roots.{isProcess}
@@ -30,14 +32,24 @@ seenAt (At P) r start a = seenFrom r start (P .0) a
 unfoldable pub seenAfter : List ℕ → List ℕ → ℕ → List ℕ → ℕ → ℕ → View
 seenAfter b flash start ram q a = choose (boots b flash start ram && isProcess b q) (processSees b flash start ram q a) Absent
 
--- one call: its answer, RAM after it, and what process q sees at address a. Where it boots and there is process q, that is what the
--- rules give it (demand 2)
+-- demand 2 of a call that boots: `exit` is RAM after it
+pub record Demand2 (b flash : List ℕ) (start : ℕ) (ram exit : List ℕ) (q a : ℕ) (r : Board) : Type 0 where
+  -- process q sees what the rules give it: exactly its sections, zero around them, those rights, and nothing else but the kernel's own
+  -- mapping and the stack reservation
+  pub views : 1 ≤ q → q ≤ processCount b
+      → r .seen ≡ sees b flash (tracker b (length ram / 4096)) (satpWord b (start / 4096) (length ram / 4096)) q a
+  pub exactly : 1 ≤ q → q ≤ processCount b → Exactly b flash (start / 4096) (length ram / 4096) q a (r .seen)
+  -- a RAM page reached with the user right, by any process at any address, has one owner and one virtual page
+  pub one-owner : OneOwnerEach b start ram exit
+  -- owners' pages and free pages add up to RAM, and are the answer's
+  pub pages : AddUp b (length ram / 4096) (r .answer)
+
+-- one call: its answer, RAM after it, and what process q sees at address a; and demand 2 where it boots
 pub record OneBoard (b flash : List ℕ) (start : ℕ) (ram exit : List ℕ) (q a : ℕ) (r : Board) : Type 0 where
   pub answers : r .answer ≡ answer b (length flash) start (length ram)
   pub leaves : exit ≡ ramAfter b flash start ram
   pub shows : r .seen ≡ seenAfter b flash start ram q a
-  pub demand-2 : boots b flash start ram ≡ true → 1 ≤ q → q ≤ processCount b
-      → r .seen ≡ sees b flash (tracker b (length ram / 4096)) (satpWord b (start / 4096) (length ram / 4096)) q a
+  pub demand-2 : r .answer .number ≡ 0 → Demand2 b flash start ram exit q a r
 
 -- both calls; and where the first boots, and the second RAM has as many pages or more and draws neither 1 nor 11, the second boots,
 -- process q sees the same on both, in all that is compared, and pages taken less tracker pages is the same number (demand 3)
