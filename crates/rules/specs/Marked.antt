@@ -6,21 +6,16 @@ use Prim.Native.Nat.{ℕ, _*_}
 use lib.Dec.{eqb}
 use Rattle.notation.specs.Choice.{choices}
 use Rattle.notation.specs.Lists.{lists}
-use Rattle.notation.specs.Words.{byteOf, words}
+use Rattle.notation.specs.Words.{bytesOf, words}
 use Rattle.types.specs.declared.Answer.{Answer}
 use Rattle.rules.specs.Block.{block-rules}
 use Rattle.rules.specs.Order.{order-rules}
 use Rattle.rules.specs.Refusals.{refusal-rules}
 use Rattle.rules.specs.Load.{answer, load-rules}
 
--- the bytes of words
-unfoldable pub bytes : List ℕ → List ℕ
-bytes [] = []
-bytes (w ∷ ws) = byteOf w 0 ∷ byteOf w 1 ∷ byteOf w 2 ∷ byteOf w 3 ∷ bytes ws
-
 -- the small board's block, with the entry point of process 2, the address of B and the start of the region as given
 unfoldable pub board : ℕ → ℕ → ℕ → List ℕ
-board entry B region = bytes
+board entry B region = bytesOf
     (1 ∷ 120 ∷ 2 ∷ 32 ∷ 3 ∷ 64 ∷ 1 ∷ 112
     ∷ 0xFFC0_0010 ∷ 0 ∷ 1 ∷ 0
     ∷ entry ∷ 1 ∷ 2 ∷ 0
@@ -72,7 +67,7 @@ marked =
 
 -- the definitions above, to be unfolded as one
 unfoldable pub examples : Unit {0}
-unfolding bytes board smallBoard given exampleHolds allHold marked
+unfolding board smallBoard given exampleHolds allHold marked
 examples = tt
 
 -- all examples hold

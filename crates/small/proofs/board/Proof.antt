@@ -1,7 +1,7 @@
 use Rattle.notation.specs.Choice.{choose}
 use Rattle.notation.specs.Lists.{tab}
-use Rattle.notation.specs.Words.{byteOf}
-use Rattle.rules.specs.Marked.{board, bytes}
+use Rattle.notation.specs.Words.{byteOf, bytesOf}
+use Rattle.rules.specs.Marked.{board}
 use Rattle.word_stores.specs.Words.{withWords}
 use borrow.Author.Needs.{needs}
 use Rattle.small.proofs.board.Statement.{statement}
@@ -17,7 +17,7 @@ words-in-requires : tie.Need-words-in-requires
 words-in-requires c κs = search needs
 
 returns : tie.Need-returns
-unfolding withWords tab choose board bytes byteOf
+unfolding withWords tab choose board bytesOf byteOf
 returns c = c .before .words-in .ensures
 
 pub board-spec : {M : Type 1} → statement M
