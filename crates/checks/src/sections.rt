@@ -98,7 +98,7 @@ fn starts_low(block: &[u8], n: u32, q: u32) -> bool
     let previous = records::read_section(block, numbers::minus(n as usize, 1));
     both(
         n != process.first_section,
-        section.first_page <= previous.last_page,
+        section.first_page.0 <= previous.last_page.0,
     )
 }
 

@@ -26,7 +26,11 @@ fn mark_section(block: &[u8], n: usize, marks: &mut [u8])
     ensures { λ _. ⌜ now (marks .exit) ≡ alsoMarked (λ m. inSlots m (slotsOf (now (block .entry)) n)) (now (marks .entry)) ⌝ }
 {
     let section = records::read_section(block, n);
-    mark(marks, section.first_page / 1024, section.last_page / 1024);
+    mark(
+        marks,
+        section.first_page.0 / 1024,
+        section.last_page.0 / 1024,
+    );
 }
 
 // Marks the root slots that have a page of one of the sections of process q.

@@ -196,7 +196,7 @@ pub mapped-more : {b : List ℕ} {base N q m : ℕ} {user : Bool} {j place : ℕ
     → j < count
     → IsSection b (first + j) s
     → P ≡ base + (N - 1 - place)
-    → e′ ≡ pagesMapped e m (s .«first_page») (s .«last_page») P (s .writable) (s .executable) user
+    → e′ ≡ pagesMapped e m (s .«first_page» .0) (s .«last_page» .0) P (s .writable) (s .executable) user
     → Mapped b base N q m user (j + 1) (place + s .pages) e′
 unfolding sectionRecord
 mapped-more {b} {base} {N} {q} {m} {user} {j} {place} {e} t fits lo hi {P = P} {s} f c l is a w =

@@ -43,12 +43,12 @@ module _ {b : List ℕ} {base N : ℕ} (f : Fits b base N) where
   root-fits i h e = omega (arith, tables-fit i h e refl, table-uses-length b (i + 1))
 
   -- satp, from the place of the root
-  pub satp-is : (i : ℕ) {place : ℕ} → i < processCount b → place ≡ rootAfter i
-      → 0x8000_0000 + 0x40_0000 * (i + 1) + (base + (N - 1 - place)) ≡ satpWord b base N (i + 1)
+  pub satp-is : (i : ℕ) {place root : ℕ} → i < processCount b → place ≡ rootAfter i → root ≡ base + (N - 1 - place)
+      → 0x8000_0000 + 0x40_0000 * (i + 1) + root ≡ satpWord b base N (i + 1)
   unfolding satpWord physPage
-  satp-is i h e =
+  satp-is i h e r =
       let p = ram-page-at b N (rootTable (i + 1)) _ (place-root b (trackerPages b N) (i + 1) (omega arith) (omega arith)) in
-      rw (e, p) refl
+      rw (r, e, p) refl
 
   module _ {left : ℕ} (e : left ≡ N - (trackerPlace b + trackerPages b N)) where
     -- the list's page is inside RAM of n bytes, which has the pages that are left

@@ -187,9 +187,14 @@ two-tables b q = elim (ℕ-discrete q 1) [
   | no e ↦ omega (arith, leaf-below b q 511 (omega arith) (stack-slot b q e))
 ]
 
-pub room-for-two : (b : List ℕ) (base N q : ℕ) → Fits b base N → 1 ≤ q → q ≤ processCount b → rootPlace b (trackerPages b N) q + 2 ≤ N
+room-for-two : (b : List ℕ) (base N q : ℕ) → Fits b base N → 1 ≤ q → q ≤ processCount b → rootPlace b (trackerPages b N) q + 2 ≤ N
 unfolding tableCount
 room-for-two b base N q f lo hi = omega (arith, tables-room b N q (f .enough) lo hi, two-tables b q)
+
+-- the page of the first leaf, as it is handed out after the root's and made physical
+first-leaf : (b : List ℕ) (base N q left : ℕ) {n k P : ℕ} → Fits b base N → 1 ≤ q → q ≤ processCount b → left ≡ N - rootPlace b (trackerPages b N) q
+    → n ≡ left - 1 → k ≡ n - 1 → P ≡ (base + k) % 0x1_0000_0000 → P ≡ base + left - 2
+first-leaf b base N q left f lo hi l en ek e = omega (arith, room-for-two b base N q f lo hi, f .end)
 
 leaf-phys : (b : List ℕ) (base N q m left : ℕ) → Fits b base N → 1 ≤ q → q ≤ processCount b → left ≡ N - rootPlace b (trackerPages b N) q
     → m < 1024 → hasLeaf b q m ≡ true → physPage b base N (leafTable q m) ≡ base + left - 2 - leavesBelow b q m
@@ -205,20 +210,23 @@ phys-small : (b : List ℕ) (base N : ℕ) (u : Use) → Fits b base N → physP
 unfolding physPage ramPage
 phys-small b base N u f = omega (arith, f .end)
 
-pub kernel-at : (b : List ℕ) (base N left : ℕ) → Fits b base N → left ≡ N - rootPlace b (trackerPages b N) 1
-    → base + left - 2 ≡ physPage b base N (leafTable 1 1023)
-kernel-at b base N left f l =
-    sym (leaf-phys b base N 1 1023 left f (omega arith) (f .some-process) l (omega arith) (kernel-slot b) ∙ rw (kernel-below b) (omega arith))
+pub kernel-at : (b : List ℕ) (base N left : ℕ) {n k P : ℕ} → Fits b base N → left ≡ N - rootPlace b (trackerPages b N) 1
+    → n ≡ left - 1 → k ≡ n - 1 → P ≡ (base + k) % 0x1_0000_0000 → P ≡ physPage b base N (leafTable 1 1023)
+kernel-at b base N left f l en ek e =
+    first-leaf b base N 1 left f (omega arith) (f .some-process) l en ek e
+    ∙ sym (leaf-phys b base N 1 1023 left f (omega arith) (f .some-process) l (omega arith) (kernel-slot b) ∙ rw (kernel-below b) (omega arith))
 
-pub leaves-at : (b : List ℕ) (base N q left kernel : ℕ) → Fits b base N → 1 ≤ q → q ≤ processCount b
+pub leaves-at : (b : List ℕ) (base N q left kernel : ℕ) {n k first : ℕ} → Fits b base N → 1 ≤ q → q ≤ processCount b
     → kernel ≡ physPage b base N (leafTable 1 1023) → left ≡ N - rootPlace b (trackerPages b N) q
-    → LeavesAt b base N q (base + left - 2) kernel
-leaves-at b base N q left kernel f lo hi k l = record {
-  leaf = λ m h e. leaf-phys b base N q m left f lo hi l h e;
-  small = omega (arith, f .end);
-  kernel-leaf = k;
-  kernel-small = rw k (phys-small b base N _ f);
-}
+    → n ≡ left - 1 → k ≡ n - 1 → first ≡ (base + k) % 0x1_0000_0000 → LeavesAt b base N q first kernel
+leaves-at b base N q left kernel f lo hi kl l en ek e =
+    let s = first-leaf b base N q left f lo hi l en ek e in
+    record {
+      leaf = λ m h t. leaf-phys b base N q m left f lo hi l h t ∙ rw s;
+      small = omega (arith, f .end);
+      kernel-leaf = kl;
+      kernel-small = rw kl (phys-small b base N _ f);
+    }
 
 -- THE TABLES OF ONE PROCESS
 pub process-tables : (b : List ℕ) (base N q : ℕ) (r₀ r₁ : List ℕ) (n₀ k : ℕ) {n₁ : ℕ} {r : List ℕ} {n : ℕ}

@@ -48,8 +48,8 @@ fn map_sections(
         tables::map_pages(
             entries,
             m,
-            VirtPage(section.first_page),
-            VirtPage(section.last_page),
+            section.first_page,
+            section.last_page,
             page_at(base, pages, place),
             section.writable,
             section.executable,

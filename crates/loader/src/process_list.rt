@@ -15,6 +15,7 @@ ghost use Rattle.writing.specs.Pages.{put};
 ghost use Rattle.writing.specs.Loaded.{content};
 ghost use Rattle.demands.specs.Boot.{Fits};
 use ram_pages::PageAllocator;
+use ram_pages::page_at;
 use types::PhysPage;
 
 // The stack pointer that process q starts with.
@@ -53,7 +54,7 @@ fn list_processes(page: &mut [u8], block: &[u8], base: u32, pages: u32, first: u
     let mut place = first;
     let mut i: u32 = 0;
     while i < count {
-        let root = PhysPage(base + (pages - 1 - place));
+        let root = page_at(base, pages, place);
         put_process(page, block, i + 1, root);
         place += leaves::table_count(block, i + 1);
         i += 1;

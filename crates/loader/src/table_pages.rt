@@ -18,6 +18,7 @@ ghost use Rattle.demands.specs.Boot.{Fits};
 ghost use Rattle.loader.specs.TablePages.{leafUses, LeavesAt};
 use crate::leaf_entries::leaf_entries;
 use ram_pages::PageAllocator;
+use ram_pages::physical;
 use types::PhysPage;
 use types::RamPage;
 
@@ -128,11 +129,13 @@ fn load_process_tables(
 {
     let mut marks = [0u8; 1024];
     leaves::leaf_marks(block, q, &mut marks);
-    let got = from.allocate();
-    let first = PhysPage(base + from.left - 2);
+    let root = from.allocate();
+    // The page that the first leaf table gets.
+    let leaf = root.rest.allocate();
+    let first = physical(base, leaf.page);
     load_root(
         ram,
-        got.page,
+        root.page,
         block,
         base,
         pages,
@@ -141,7 +144,7 @@ fn load_process_tables(
         first,
         kernel_leaf,
     );
-    load_leaves(ram, block, base, pages, q, &marks, got.rest)
+    load_leaves(ram, block, base, pages, q, &marks, root.rest)
 }
 
 // The tables of all processes, the kernel's first.
@@ -156,7 +159,10 @@ pub(crate) fn load_tables(
     ensures { λ r. ⌜ (r .left ≡ from .left - tablesBefore (now (block .entry)) (processCount (now (block .entry))))
         × ((flash : List ℕ) → now (ram .exit) ≡ writeUses (content (now (block .entry)) flash base pages) (now (ram .entry)) (from .left) (gather (processCount (now (block .entry))) (λ i. tableUses (now (block .entry)) (i + 1)))) ⌝ }
 {
-    let kernel_leaf = PhysPage(base + from.left - 2);
+    // The kernel's root and its one leaf table get the next two pages.
+    let root = from.allocate();
+    let leaf = root.rest.allocate();
+    let kernel_leaf = physical(base, leaf.page);
     let count = counts::process_count(block);
     let mut next = from;
     let mut i: u32 = 0;

@@ -33,8 +33,8 @@ pub section-is : {b : List ℕ} {n a s o f l : ℕ} {z w x : Bool}
       «no_copy» = z;
       writable = w;
       executable = x;
-      «first_page» = a / 4096;
-      «last_page» = l / 4096;
+      «first_page» = record { 0 = a / 4096 };
+      «last_page» = record { 0 = l / 4096 };
       pages = l / 4096 + 1 - a / 4096;
     })
 unfolding noCopy writable executable sectionEnd firstPage lastPage pageCount

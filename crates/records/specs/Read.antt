@@ -25,8 +25,8 @@ pub record IsSection (b : List ℕ) (n : ℕ) (r : Section) : Type 0 where
   pub no-copy : r .«no_copy» ≡ noCopy b n
   pub is-writable : r .writable ≡ writable b n
   pub is-executable : r .executable ≡ executable b n
-  pub first-page : r .«first_page» ≡ firstPage b n
-  pub last-page : r .«last_page» ≡ lastPage b n
+  pub first-page : r .«first_page» .0 ≡ firstPage b n
+  pub last-page : r .«last_page» .0 ≡ lastPage b n
   pub page-count : r .pages ≡ pageCount b n
   pub page-count-le : r .pages ≤ 0x20_0000
 

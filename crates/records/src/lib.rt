@@ -4,6 +4,7 @@ ghost use Prim.Native.Nat.{ℕ, _+_, _<_};
 ghost use Rattle.notation.specs.Words.{word};
 ghost use Rattle.rules.specs.Block.{sectionAt};
 ghost use Rattle.records.specs.Read.{IsProcess, IsSection, IsRegion};
+use types::VirtPage;
 
 // A process record.
 pub struct Process {
@@ -22,8 +23,8 @@ pub struct Section {
     pub no_copy: bool,
     pub writable: bool,
     pub executable: bool,
-    pub first_page: u32,
-    pub last_page: u32,
+    pub first_page: VirtPage,
+    pub last_page: VirtPage,
     pub pages: u32,
 }
 
@@ -76,8 +77,8 @@ pub fn read_section(block: &[u8], n: usize) -> Section
         no_copy: numbers::bit(flags, 1),
         writable: numbers::bit(flags, 2),
         executable: numbers::bit(flags, 4),
-        first_page: first,
-        last_page: last,
+        first_page: VirtPage(first),
+        last_page: VirtPage(last),
         pages,
     }
 }

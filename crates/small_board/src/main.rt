@@ -1,11 +1,13 @@
 // Loads the small board of 01 and prints what that leaves in RAM: the RAM page of every use, every entry of every table that is
 // not absent, and the satp words. All is drawn from RAM by the reader, starting at the root table of process 2.
 use libc::STDOUT_FILENO;
+use ram_pages::physical;
 use small::START;
 use std::num::wrapping_add_u32;
 use std::num::wrapping_sub_u32;
 use types::Entry;
 use types::PhysPage;
+use types::RamPage;
 
 fn print(text: &[u8]) {
     io::write_all(STDOUT_FILENO, text);
@@ -109,7 +111,7 @@ fn print_uses(ram: &[u8], root: PhysPage) {
 
 fn print_if_free(tracker: &[u8], k: u32) {
     if slices::byte(tracker, k as usize) == 0 {
-        print_use(PhysPage(wrapping_add_u32(START / 4096, k)), b"free");
+        print_use(physical(START / 4096, RamPage(k)), b"free");
     }
 }
 
@@ -163,9 +165,9 @@ fn main() {
     let mut ram = io::large_buffer();
     let answer = loader::load(&block, &flash, &mut ram, START);
     // The tables of the last process are the lowest pages taken, its root the highest of them.
-    let lowest = wrapping_add_u32(START / 4096, answer.free);
     let tables = leaves::table_count(&block, 2);
-    let root = PhysPage(wrapping_add_u32(lowest, wrapping_sub_u32(tables, 1)));
+    let highest = wrapping_add_u32(answer.free, wrapping_sub_u32(tables, 1));
+    let root = physical(START / 4096, RamPage(highest));
     print_uses(&ram, root);
     print_free(&ram, root);
     print_tables(&ram, root);

@@ -49,7 +49,9 @@ map-pages-requires c κs = search needs
 add-place : tie.Need-add-place Inv-loop μ-loop
 add-place c =
     let read = c .before .before .before .before .before .before in
-    omega (arith, read .read-section .ensures .page-count-le, read .before .before .loop .inv .2 .room)
+    let loop = read .before .before in
+    let fits = loop .before .before .before .before .before .pre .0 in
+    omega (arith, read .read-section .ensures .page-count-le, loop .loop .inv .2 .room, fits .few-pages)
 
 add-j : tie.Need-add-j Inv-loop μ-loop
 add-j c =

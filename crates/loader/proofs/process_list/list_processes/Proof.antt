@@ -4,6 +4,7 @@ use Rattle.rules.specs.Order.{trackerPages}
 use Rattle.rules.specs.Load.{satpWord}
 use Rattle.placement.specs.Places.{rootPlace}
 use Rattle.stores.proofs.Written.{Written, written-none}
+use Rattle.ram_pages.proofs.PageAt.{page-inside}
 use Rattle.loader.proofs.ProcessWords.{listByte, root-next, tables-fit, root-fits, satp-is, process-turn, list-end}
 use native.Mathlib.Omega.{arith}
 use borrow.Author.Needs.{needs}
@@ -25,32 +26,18 @@ process-count-requires c κs = search needs
 loop-holds : tie.Need-loop-holds Inv-loop μ-loop
 loop-holds c = (search needs, c .before .before .before .before .before .before .before .pre .1, written-none _ _ _ _ refl)
 
-sub-place : tie.Need-sub-place Inv-loop μ-loop
-sub-place c =
-    let loop = c .before in
-    let fits = loop .before .before .before .before .before .before .before .before .pre .0 in
-    omega (arith, root-fits fits _ (omega (arith, loop .before .process-count .ensures)) (loop .loop .inv .1))
-
-sub-place-2 : tie.Need-sub-place-2 Inv-loop μ-loop
-sub-place-2 c =
-    let loop = c .before in
-    let fits = loop .before .before .before .before .before .before .before .before .pre .0 in
-    omega (arith, root-fits fits _ (omega (arith, loop .before .process-count .ensures)) (loop .loop .inv .1))
-
-add-place : tie.Need-add-place Inv-loop μ-loop
-add-place c =
-    let loop = c .before in
-    let fits = loop .before .before .before .before .before .before .before .before .pre .0 in
-    omega (arith, root-fits fits _ (omega (arith, loop .before .process-count .ensures)) (loop .loop .inv .1), fits .end)
+page-at-requires : tie.Need-page-at-requires Inv-loop μ-loop
+page-at-requires c κs = search needs
 
 add-put-process : tie.Need-add-put-process Inv-loop μ-loop
 add-put-process c = search needs
 
 put-process-requires : tie.Need-put-process-requires Inv-loop μ-loop
 put-process-requires c κs =
-    let loop = c .before .before in
+    let loop = c .before .before .before in
     let fits = loop .before .before .before .before .before .before .before .before .pre .0 in
-    omega (arith, root-fits fits _ (omega (arith, loop .before .process-count .ensures)) (loop .loop .inv .1), fits .end, fits .few-processes)
+    let root = page-inside _ _ _ _ (c .before .page-at .ensures) (fits .end) in
+    omega (arith, root, root-fits fits _ (omega (arith, loop .before .process-count .ensures)) (loop .loop .inv .1), fits .end, fits .few-processes)
 
 add-table-count : tie.Need-add-table-count Inv-loop μ-loop
 add-table-count c = search needs
@@ -58,9 +45,9 @@ add-table-count c = search needs
 table-count-requires : tie.Need-table-count-requires Inv-loop μ-loop
 table-count-requires c κs = search needs
 
-add-place-2 : tie.Need-add-place-2 Inv-loop μ-loop
-add-place-2 c =
-    let loop = c .before .before .before .before .before .before in
+add-place : tie.Need-add-place Inv-loop μ-loop
+add-place c =
+    let loop = c .before .before .before .before .before .before .before in
     let fits = loop .before .before .before .before .before .before .before .before .pre .0 in
     omega (arith, tables-fit fits _ (omega (arith, loop .before .process-count .ensures)) (loop .loop .inv .1) (c .table-count .ensures), fits .few-pages)
 
@@ -72,7 +59,8 @@ loop-less c = search needs
 
 loop-again : tie.Need-loop-again Inv-loop μ-loop
 loop-again c =
-    let loop = c .before .before .before .before .before .before in
+    let put = c .before .before .before in
+    let loop = put .before .before .before .before in
     let start = loop .before .before .before .before .before .before .before .before in
     let fits = start .pre .0 in
     let count = loop .before .process-count .ensures in (
@@ -80,7 +68,7 @@ loop-again c =
       root-next fits _ (loop .loop .inv .1) (c .table-count .ensures),
       process-turn _ _ _ (loop .loop .inv .2)
           (omega (arith, count, fits .few-processes, start .pre .2))
-          (satp-is fits _ (omega (arith, count)) (loop .loop .inv .1)) (c .before .before .before .put-process .ensures),
+          (satp-is fits _ (omega (arith, count)) (loop .loop .inv .1) (page-inside _ _ _ _ (put .before .before .page-at .ensures) (fits .end))) (put .put-process .ensures),
     )
 
 same-length : tie.Need-same-length Inv-loop μ-loop
@@ -98,14 +86,12 @@ list-processes-spec =
     clear-requires
     process-count-requires
     loop-holds
-    sub-place
-    sub-place-2
-    add-place
+    page-at-requires
     add-put-process
     put-process-requires
     add-table-count
     table-count-requires
-    add-place-2
+    add-place
     add-i
     loop-less
     loop-again

@@ -1,7 +1,7 @@
 use Prim.Native.Nat.{_+_, _-_, _≤_}
 use Rattle.notation.specs.Lists.{gather}
 use Rattle.rules.specs.Order.{tableUses}
-use Rattle.loader.proofs.TablePages.{room-for-two, kernel-at, next-place, tables-all, Tables, tables-none, tables-next}
+use Rattle.loader.proofs.TablePages.{kernel-at, next-place, tables-all, Tables, tables-none, tables-next}
 use native.Mathlib.Omega.{arith}
 use borrow.Author.Needs.{needs}
 use Rattle.loader.proofs.table_pages.load_tables.Statement.{statement}
@@ -13,13 +13,14 @@ Inv-loop ram₀ block base pages kernel-leaf count next₀ i₀ ram next i = (i 
 abbrev μ-loop : tie.MeasureT-loop
 μ-loop ram₀ block base pages kernel-leaf count next₀ i₀ ram next i = count - i
 
-add-t10 : tie.Need-add-t10 Inv-loop μ-loop
-add-t10 c = omega (arith, c .before .before .before .pre .0 .end, c .before .before .before .pre .1)
+allocate-requires : tie.Need-allocate-requires Inv-loop μ-loop
+allocate-requires c κs = search needs
 
-sub-t11 : tie.Need-sub-t11 Inv-loop μ-loop
-sub-t11 c =
-    let pre = c .before .before .before .pre in
-    omega (arith, room-for-two _ _ _ 1 (pre .0) (omega arith) (pre .0 .some-process), pre .1)
+allocate-requires-2 : tie.Need-allocate-requires-2 Inv-loop μ-loop
+allocate-requires-2 c κs = search needs
+
+physical-requires : tie.Need-physical-requires Inv-loop μ-loop
+physical-requires c κs = search needs
 
 process-count-requires : tie.Need-process-count-requires Inv-loop μ-loop
 process-count-requires c κs = search needs
@@ -33,11 +34,12 @@ add-load-process-tables c = search needs
 load-process-tables-requires : tie.Need-load-process-tables-requires Inv-loop μ-loop
 load-process-tables-requires c κs =
     let loop = c .before .before in
-    let pre = loop .before .before .before .before .before .pre in (
+    let leaf = loop .before .before .before in
+    let pre = leaf .before .before .before .before .pre in (
       pre .0,
       search needs,
       omega (arith, c .before .loop-test .taken, loop .before .process-count .ensures),
-      kernel-at _ _ _ _ (pre .0) (pre .1),
+      kernel-at _ _ _ _ (pre .0) (pre .1) (leaf .before .allocate .ensures .1) (leaf .allocate2 .ensures .0) (loop .before .before .physical .ensures),
       next-place _ _ _ _ (pre .1) (loop .loop .inv .1),
     )
 
@@ -64,8 +66,9 @@ load-tables-spec =
     (tie.spec
     Inv-loop
     μ-loop
-    add-t10
-    sub-t11
+    allocate-requires
+    allocate-requires-2
+    physical-requires
     process-count-requires
     loop-holds
     add-load-process-tables
