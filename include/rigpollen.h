@@ -108,7 +108,9 @@ extern "C" {
  *   flash      the flash image; section records hold offsets into it
  *   ram        the whole of RAM, at most 4,096 pages. The top four pages
  *              are lost to all (stack and guard of the ROM itself) and keep
- *              their bytes; the rest is taken from the top down.
+ *              their bytes; the rest is taken from the top down. The loader
+ *              itself never writes those four; a caller whose stack is
+ *              there changes them by running.
  *   ram_start  RAM's physical address, a multiple of 4,096
  *
  * Returns 0, or the number of the refusal.

@@ -8,6 +8,7 @@ use mathlib.Core.Option.{Option, none, some}
 use Prim.Native.Nat.{ℕ, zero, suc, _+_, _-_, _*_, _/_, _≤_, _<_}
 use native.Mathlib.Decide.{ℕ-discrete, decLt}
 use native.Mathlib.Nat.{not-suc-le-zero}
+use native.Mathlib.Numerals.{add-one}
 use native.Mathlib.Omega.{arith}
 use lib.Dec.{leb, ltb, eqb}
 use borrow.Author.Tests.{eqb-true, eqb-false, eq-eqb, ne-eqb, leb-true, leb-false, ltb-true, ltb-false, le-leb, lt-ltb, lt-leb, not-false}
@@ -18,11 +19,15 @@ use Rattle.rules.specs.Refusals.{sectionsBefore, processUnfit, sectionUnfit, ha
 use Rattle.rules.specs.Space.{Mapping, maps, sectionPage, hasPage, sectionMapping, sectionAtPage, inTracker, kernelPage, inStack, userPage, mappingAt}
 use Rattle.laws.specs.Choice.{false-not-true, choose-lt, and-both, and-left, and-right, and-rest, any-none}
 use Rattle.laws.specs.Lists.{by-find-last}
-use Rattle.laws.specs.Counts.{sum-le, sum-next}
+use Rattle.laws.specs.Counts.{sum-none, sum-le, sum-next}
 use Rattle.demands.specs.NoCause.{NoCause}
 use Rattle.demands.specs.Mappings.{has-page-first, has-page-last}
 
--- the sum of the counts up to and with process q
+-- the sum of the counts of no process, and up to and with process q
+sections-before-none : (b : List ℕ) → sectionsBefore b 0 ≡ 0
+unfolding sectionsBefore
+sections-before-none b = sum-none _
+
 sections-before-next : (b : List ℕ) (q : ℕ) → 1 ≤ q → sectionsBefore b q ≡ sectionsBefore b (q - 1) + sectionsOf b q
 unfolding sectionsBefore
 sections-before-next b q lo = let e : q - 1 + 1 ≡ q = omega arith in rw e at (sum-next (q - 1) (λ i. sectionsOf b (i + 1)))
@@ -117,6 +122,39 @@ module _ (b : List ℕ) (flash start len : ℕ) (ok : NoCause b flash start len)
     section-in-space k h =
         let e : address b (sectionRecord b q j) + size b (sectionRecord b q j) ≤ rangeLast q + 1 = section-to in
         omega (arith, choose-lt (eqb q 1) 0xFFEF_FFFF 0x7FFF_BFFF 0xFFFF_FFFF (omega arith) (omega arith))
+
+  -- 6: each section record is some process's, and `ownerOf` names it
+  covered : (m n : ℕ) → n < sectionsBefore b m → (i : ℕ) × (i < m) × (sectionsBefore b i ≤ n) × (n < sectionsBefore b (i + 1))
+  covered zero n h = absurd (omega (arith, sections-before-none b))
+  covered (suc m) n h = elim (decLt n (sectionsBefore b m)) [
+    | yes l ↦ let c = covered m n l in (c .0, omega (arith, c .1), c .2, c .3)
+    | no l ↦ (m, omega arith, omega arith, rw add-one h)
+  ]
+
+  last-sum : 1 ≤ processCount b → sectionsBefore b (processCount b) ≡ sectionCount b
+  unfolding processUnfit
+  last-sum some-process =
+      let i : ℕ = processCount b - 1 in
+      let e : i + 1 ≡ processCount b = omega arith in
+      let f : (eqb (i + 1) (processCount b) && not (eqb (sectionsBefore b (i + 1)) (sectionCount b))) ≡ false = any-none _ (ok .process i (omega arith)) 4 in
+      rw e at (eqb-true (sectionsBefore b (i + 1)) (sectionCount b) (not-false _ (and-rest (eq-eqb (i + 1) (processCount b) e) f)))
+
+  pub section-owner : (n : ℕ) → 1 ≤ processCount b → n < sectionCount b
+      → (1 ≤ ownerOf b n) × (ownerOf b n ≤ processCount b) × (j : ℕ) × (j < sectionsOf b (ownerOf b n)) × (n ≡ sectionRecord b (ownerOf b n) j)
+  unfolding sectionRecord
+  section-owner n some-process h =
+      let c = covered (processCount b) n (omega (arith, last-sum some-process)) in
+      let q : ℕ = c .0 + 1 in
+      let lo : 1 ≤ q = omega arith in
+      let hi : q ≤ processCount b = omega (arith, c .1) in
+      let back : q - 1 ≡ c .0 = omega arith in
+      let first : firstSection b q ≡ sectionsBefore b (c .0) = rw back at (first-is q lo hi) in
+      let next : sectionsBefore b q ≡ sectionsBefore b (c .0) + sectionsOf b q = rw back at (sections-before-next b q lo) in
+      let j : ℕ = n - firstSection b q in
+      let has-j : j < sectionsOf b q = omega (arith, c .2, c .3) in
+      let r : firstSection b q + j ≡ n = omega (arith, c .2) in
+      let o : ownerOf b n ≡ q = rw r at (owner-is q j lo hi has-j) in
+      rw o (lo, hi, j, has-j, sym r)
 
   -- 8: the next section of the process starts on a higher page
   next-above : (q j : ℕ) → 1 ≤ q → q ≤ processCount b → suc j < sectionsOf b q → lastPage b (sectionRecord b q j) < firstPage b (sectionRecord b q (suc j))

@@ -36,7 +36,8 @@ sectionMapping b q v user none = unmapped
 sectionMapping b q v user (some j) =
     let n = sectionRecord b q j in maps (sectionPage q j (v - firstPage b n)) (writable b n) (executable b n) user
 
--- process q's own section at virtual page v. (Sections of a process that boots share no page, so there is one at most.)
+-- process q's own section at virtual page v: the last found, which where a block boots is the only one (`section-seen` in
+-- demands/Demand2)
 unfoldable pub sectionAtPage : List ℕ → ℕ → ℕ → Bool → Mapping
 sectionAtPage b q v user = sectionMapping b q v user (findLast (λ j. hasPage b v (sectionRecord b q j)) (sectionsOf b q))
 
@@ -45,7 +46,8 @@ unfoldable pub inTracker : ℕ → ℕ → Bool
 inTracker T v = leb 0xFFF40 v && ltb v (0xFFF40 + T)
 
 -- the kernel's 4 MiB, from 0xFFC00000 on: the process list at 0xFFF80000 (read), the tracker at 0xFFF40000 (read, write),
--- the block copy at 0xFFF00000 (read), and the kernel's sections. (The kernel's sections end below 0xFFF00000.)
+-- the block copy at 0xFFF00000 (read), and the kernel's sections. Where a block boots, none of these stands over another (`sees-exactly` in
+-- demands/Demand2)
 unfoldable pub kernelPage : List ℕ → ℕ → ℕ → Mapping
 kernelPage b T v =
     choose (eqb v 0xFFF80) (maps processList false false false)
@@ -57,6 +59,7 @@ kernelPage b T v =
 unfoldable pub inStack : ℕ → Bool
 inStack v = leb 0x7FFFC v && leb v 0x7FFFF
 
+-- where a block boots, no section reaches into the stack (`sees-exactly` in demands/Demand2)
 unfoldable pub userPage : List ℕ → ℕ → ℕ → Mapping
 userPage b q v = choose (inStack v) stack (sectionAtPage b q v true)
 
