@@ -1,3 +1,4 @@
+pub mod Lent
 pub mod Block
 pub mod Space
 pub mod Order

@@ -5,13 +5,14 @@ use mathlib.Core.List.{List, [], _∷_}
 use Prim.Native.Nat.{ℕ, _*_}
 use lib.Dec.{eqb}
 use Rattle.notation.specs.Choice.{choices}
-use Rattle.notation.specs.Lists.{lists}
+use Rattle.notation.specs.Lists.{tab, lists}
 use Rattle.notation.specs.Words.{bytesOf, words}
 use Rattle.types.specs.declared.Answer.{Answer}
+use Rattle.rules.specs.Lent.{imageOf, areaOf, area-rules}
 use Rattle.rules.specs.Block.{block-rules}
 use Rattle.rules.specs.Order.{order-rules}
 use Rattle.rules.specs.Refusals.{refusal-rules}
-use Rattle.rules.specs.Load.{answer, load-rules}
+use Rattle.rules.specs.Load.{answerOn, load-rules}
 
 -- the small board's block, with the entry point of process 2, the address of B and the start of the region as given
 unfoldable pub board : ℕ → ℕ → ℕ → List ℕ
@@ -38,7 +39,7 @@ pub record Example : Type 0 where
   pub free : ℕ
 
 unfoldable pub given : Example → Answer
-given x = answer (x .block) (x .flash) 0x4000_0000 (4096 * x .pages)
+given x = answerOn (imageOf (x .block) (tab (x .flash) (λ k. 0))) (areaOf 0x4000_0000 (4096 * x .pages))
 
 unfoldable pub exampleHolds : Example → Bool
 exampleHolds x = let a = given x in eqb (a .number) (x .number) && (eqb (a .place) (x .place) && eqb (a .free) (x .free))
@@ -72,5 +73,5 @@ examples = tt
 
 -- all examples hold
 pub P1-to-P12 : allHold marked ≡ true
-unfolding examples load-rules refusal-rules order-rules block-rules words lists choices
+unfolding examples load-rules refusal-rules order-rules block-rules area-rules words lists choices
 P1-to-P12 = refl

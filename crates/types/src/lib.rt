@@ -9,6 +9,18 @@ pub struct VirtPage(pub u32);
 // A physical page number (PPN): a physical address / 4,096.
 pub struct PhysPage(pub u32);
 
+// Physical addresses from `start` on: `length` bytes.
+pub struct Area {
+    pub start: u32,
+    pub length: u32,
+}
+
+// RAM as whole pages: `pages` of them, from physical page `base` on.
+pub struct PageRange {
+    pub base: u32,
+    pub pages: u32,
+}
+
 // The rights of a page: what may be done with its bytes, and whether a user program may do it.
 pub struct Rights {
     pub read: bool,
