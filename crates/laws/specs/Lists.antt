@@ -19,6 +19,11 @@ use Rattle.laws.specs.Choice.{by-choose}
 pub none-some : {A : Type 0} {x : A} {B : Type 0} → none ≡ some x → B
 none-some e = let z : _≡_ {A = ℕ} 0 1 = cc in absurd (omega arith)
 
+-- a fact of the first element and one of the others
+infixr 5 _and_
+pub _and_ : {P Q : Type 0} → P → Q → P × Q
+p and q = (p, q)
+
 module _ {A : Type 0} where
   -- TAB
   pub tab-length : (n : ℕ) (f : ℕ → A) → length (tab n f) ≡ n

@@ -10,17 +10,17 @@ use lib.Dec.{eqb}
 use borrow.Author.Tests.{ne-eqb}
 use Rattle.notation.specs.Choice.{choose}
 use Rattle.notation.specs.Lists.{tab, gather, sum}
-use Rattle.rules.specs.Block.{processCount, sectionsOf, sectionRecord, pageCount}
+use Rattle.rules.specs.Block.{processCount, sectionsOf, sectionRecord}
 use Rattle.rules.specs.Space.{sectionPage, trackerPage, processList, blockCopy}
-use Rattle.rules.specs.Order.{Use, top, holds, rootTable, leafTable, sectionUses, hasLeaf, tableUses, order, uses, trackerPages, sameUse, ramPage}
+use Rattle.rules.specs.Order.{Use, top, holds, rootTable, leafTable, pagesTaken, sectionPages, sectionUses, allSections, trackerUses, hasLeaf, tableUses, allTables, belowTop, order, uses, trackerPages, sameUse, ramPage}
 use Rattle.laws.specs.Choice.{by-choose, choose-no}
-use Rattle.laws.specs.Lists.{every-tab, every-gather, Absent, FirstAt, first-at-cast, first-at-here, first-at-there, first-at-left, first-at-right, first-at-tab, first-at-gather, tab-length}
+use Rattle.laws.specs.Lists.{every-append, every-tab, every-gather, Absent, FirstAt, first-at-cast, first-at-here, first-at-there, first-at-left, first-at-right, first-at-tab, first-at-gather, tab-length}
 use Rattle.laws.specs.Counts.{one, sum-none, sum-next, sum-same, gather-length, one-length}
 use Rattle.placement.specs.Uses.{same-use-refl, same-use-not}
 
 -- the pages of the first n sections of process q, and of all
 unfoldable pub pagesBefore : List ℕ → ℕ → ℕ → ℕ
-pagesBefore b q n = sum n (λ j. pageCount b (sectionRecord b q j))
+pagesBefore b q n = sum n (λ j. pagesTaken b (sectionRecord b q j))
 
 unfoldable pub processPages : List ℕ → ℕ → ℕ
 processPages b q = pagesBefore b q (sectionsOf b q)
@@ -56,7 +56,7 @@ pub pages-before-none : (b : List ℕ) (q : ℕ) → pagesBefore b q 0 ≡ 0
 unfolding pagesBefore
 pages-before-none b q = sum-none _
 
-pub pages-before-next : (b : List ℕ) (q j : ℕ) → pagesBefore b q (j + 1) ≡ pagesBefore b q j + pageCount b (sectionRecord b q j)
+pub pages-before-next : (b : List ℕ) (q j : ℕ) → pagesBefore b q (j + 1) ≡ pagesBefore b q j + pagesTaken b (sectionRecord b q j)
 unfolding pagesBefore
 pages-before-next b q j = sum-next j _
 
@@ -85,13 +85,25 @@ unfolding tablesBefore
 tables-before-next b i = sum-next i _
 
 -- LENGTHS
+pub section-pages-length : (b : List ℕ) (q j : ℕ) → length (sectionPages b q j) ≡ pagesTaken b (sectionRecord b q j)
+unfolding sectionPages
+section-pages-length b q j = tab-length _ _
+
 pub section-uses-length : (b : List ℕ) (q : ℕ) → length (sectionUses b q) ≡ processPages b q
 unfolding sectionUses processPages pagesBefore
-section-uses-length b q = gather-length _ _ ∙ sum-same _ _ _ (λ j _. tab-length _ _)
+section-uses-length b q = gather-length _ _ ∙ sum-same _ _ _ (λ j _. section-pages-length b q j)
 
 pub user-uses-length : (b : List ℕ) (n : ℕ) → length (gather n (λ i. sectionUses b (i + 2))) ≡ userPages b n
 unfolding userPages
 user-uses-length b n = gather-length _ _ ∙ sum-same _ _ _ (λ i _. section-uses-length b (i + 2))
+
+pub all-sections-length : (b : List ℕ) → 4 + length (allSections b) ≡ trackerPlace b
+unfolding allSections trackerPlace sectionPlace choose
+all-sections-length b = simp (length-append, user-uses-length, section-uses-length) (omega arith)
+
+pub tracker-uses-length : (T : ℕ) → length (trackerUses T) ≡ T
+unfolding trackerUses
+tracker-uses-length T = tab-length _ _
 
 leaves-length : (b : List ℕ) (q m : ℕ) → length (gather m (λ k. choose (hasLeaf b q k) (leafTable q k ∷ []) [])) ≡ leavesBelow b q m
 unfolding leavesBelow
@@ -101,13 +113,17 @@ pub table-uses-length : (b : List ℕ) (q : ℕ) → length (tableUses b q) ≡ 
 unfolding tableUses tableCount
 table-uses-length b q = ap suc (leaves-length b q 1024)
 
-pub tables-length : (b : List ℕ) (n : ℕ) → length (gather n (λ i. tableUses b (i + 1))) ≡ tablesBefore b n
+tables-length : (b : List ℕ) (n : ℕ) → length (gather n (λ i. tableUses b (i + 1))) ≡ tablesBefore b n
 unfolding tablesBefore
 tables-length b n = gather-length _ _ ∙ sum-same _ _ _ (λ i _. table-uses-length b (i + 1))
 
+pub all-tables-length : (b : List ℕ) → length (allTables b) ≡ tablesBefore b (processCount b)
+unfolding allTables
+all-tables-length b = tables-length b (processCount b)
+
 pub order-count : (b : List ℕ) (T : ℕ) → length (order b T) ≡ trackerPlace b + T + 2 + tablesBefore b (processCount b)
-unfolding order trackerPlace sectionPlace choose
-order-count b T = simp (length-append, tab-length, section-uses-length, user-uses-length, tables-length) (omega arith)
+unfolding order belowTop
+order-count b T = simp (length-append, tab-length, tracker-uses-length, all-tables-length) (omega (arith, all-sections-length b))
 
 -- PLACES
 -- `At b T u i`: use u stands at place i of the order, and nowhere before
@@ -161,14 +177,14 @@ module _ (b : List ℕ) (u : Use) where
   not-top h = every-tab _ 4 top (λ i _. differ part u (top i) (λ e. omega arith))
 
   not-sections : (q : ℕ) → (part u ≡ 1 → process u ≡ q → ⊥) → Absent (sameUse u) (sectionUses b q)
-  unfolding sectionUses part process
+  unfolding sectionUses sectionPages part process
   not-sections q n = every-gather _ _ _ (λ j _. every-tab _ _ _ (λ i _. same-use-not u _ (λ e. n (ap part e) (ap process e))))
 
   not-users : (m : ℕ) → (part u ≡ 1 → (i : ℕ) → i < m → process u ≡ i + 2 → ⊥) → Absent (sameUse u) (gather m (λ i. sectionUses b (i + 2)))
   not-users m n = every-gather _ _ _ (λ i l. not-sections (i + 2) (λ e f. n e i l f))
 
-  not-tracker : (T : ℕ) → 3 ≤ part u → Absent (sameUse u) (tab T (λ i. holds (trackerPage i)))
-  unfolding part
+  not-tracker : (T : ℕ) → 3 ≤ part u → Absent (sameUse u) (trackerUses T)
+  unfolding trackerUses part
   not-tracker T h = every-tab _ T _ (λ i _. differ part u (holds (trackerPage i)) (λ e. omega arith))
 
   not-tables : (q : ℕ) → (process u ≡ q → ⊥) → Absent (sameUse u) (tableUses b q)
@@ -179,44 +195,39 @@ module _ (b : List ℕ) (u : Use) where
   )
 
 module _ (b : List ℕ) (T : ℕ) where
-  -- what follows the four at the top; the users' sections; the kernel's; the tracker
+  -- what follows the sections, and the tracker
   abbrev after-tracker : List Use
-  after-tracker = holds processList ∷ holds blockCopy ∷ gather (processCount b) (λ i. tableUses b (i + 1))
+  after-tracker = holds processList ∷ holds blockCopy ∷ allTables b
 
-  abbrev after-kernel : List Use
-  after-kernel = tab T (λ i. holds (trackerPage i)) ++ after-tracker
+  abbrev after-sections : List Use
+  after-sections = trackerUses T ++ after-tracker
 
-  at-users : (u : Use) (i : ℕ) → 1 ≤ part u → FirstAt (sameUse u) (gather (processCount b - 1) (λ i. sectionUses b (i + 2))) i → At b T u (4 + i)
-  unfolding order
-  at-users u i h f = first-at-cast (first-at-right (sameUse u) (tab 4 top) _ i (not-top b u h) (first-at-left (sameUse u) _ _ i f)) (simp tab-length)
+  at-sections : (u : Use) (i : ℕ) → 1 ≤ part u → FirstAt (sameUse u) (allSections b) i → At b T u (4 + i)
+  unfolding order belowTop
+  at-sections u i h f = first-at-cast (first-at-right (sameUse u) (tab 4 top) _ i (not-top b u h) (first-at-left (sameUse u) _ _ i f)) (simp tab-length)
 
-  -- a use that is in no user's sections
-  at-kernel : (u : Use) (i : ℕ) → 1 ≤ part u → (part u ≡ 1 → process u ≡ 1) → FirstAt (sameUse u) (sectionUses b 1 ++ after-kernel) i
-      → At b T u (sectionPlace b 1 + i)
-  unfolding order sectionPlace choose
-  at-kernel u i h k f =
-      first-at-cast (first-at-right (sameUse u) (tab 4 top) _ _ (not-top b u h)
-      (first-at-right (sameUse u) (gather (processCount b - 1) (λ i. sectionUses b (i + 2))) _ i
-      (not-users b u _ (λ e i l p. omega (arith, k e))) f))
-      (simp (tab-length, user-uses-length) (omega arith))
+  not-all-sections : (u : Use) → 2 ≤ part u → Absent (sameUse u) (allSections b)
+  unfolding allSections
+  not-all-sections u h =
+      every-append _ (gather _ _) _ (not-users b u _ (λ e i l p. absurd (omega arith))) (not-sections b u 1 (λ e _. omega arith))
 
   -- a use that is in no section
-  at-after : (u : Use) (i : ℕ) → 2 ≤ part u → FirstAt (sameUse u) after-kernel i → At b T u (trackerPlace b + i)
-  unfolding trackerPlace
+  at-after : (u : Use) (i : ℕ) → 2 ≤ part u → FirstAt (sameUse u) after-sections i → At b T u (trackerPlace b + i)
+  unfolding order belowTop
   at-after u i h f =
-      first-at-cast (at-kernel u _ (omega arith) (λ e. absurd (omega arith))
-      (first-at-right (sameUse u) (sectionUses b 1) _ i (not-sections b u 1 (λ e _. omega arith)) f))
-      (simp section-uses-length (omega arith))
+      first-at-cast (first-at-right (sameUse u) (tab 4 top) _ _ (not-top b u (omega arith))
+      (first-at-right (sameUse u) (allSections b) _ i (not-all-sections u h) f))
+      (simp tab-length (omega (arith, all-sections-length b)))
 
   at-end : (u : Use) (i : ℕ) → 3 ≤ part u → FirstAt (sameUse u) after-tracker i → At b T u (trackerPlace b + T + i)
   at-end u i h f =
-      first-at-cast (at-after u _ (omega arith) (first-at-right (sameUse u) (tab T (λ i. holds (trackerPage i))) _ i (not-tracker b u T h) f))
-      (simp tab-length (omega arith))
+      first-at-cast (at-after u _ (omega arith) (first-at-right (sameUse u) (trackerUses T) _ i (not-tracker b u T h) f))
+      (simp tracker-uses-length (omega arith))
 
   -- page i of section j, among the pages of its process
-  in-sections : (q j i : ℕ) → j < sectionsOf b q → i < pageCount b (sectionRecord b q j)
+  in-sections : (q j i : ℕ) → j < sectionsOf b q → i < pagesTaken b (sectionRecord b q j)
       → FirstAt (sameUse (holds (sectionPage q j i))) (sectionUses b q) (pagesBefore b q j + i)
-  unfolding sectionUses pagesBefore section page
+  unfolding sectionUses sectionPages pagesBefore section page
   in-sections q j i h l =
       let u : Use = holds (sectionPage q j i) in
       first-at-cast
@@ -225,25 +236,29 @@ module _ (b : List ℕ) (T : ℕ) where
       (first-at-tab (sameUse u) _ (λ i. holds (sectionPage q j i)) i l (same-use-refl u) (λ n k. differ page u (holds (sectionPage q j n)) (λ e. omega arith))))
       (ap (λ (n : ℕ). n + i) (gather-length _ _ ∙ sum-same _ _ _ (λ j _. tab-length _ _)))
 
-  pub place-section : (q j i : ℕ) → 1 ≤ q → q ≤ processCount b → j < sectionsOf b q → i < pageCount b (sectionRecord b q j)
+  pub place-section : (q j i : ℕ) → 1 ≤ q → q ≤ processCount b → j < sectionsOf b q → i < pagesTaken b (sectionRecord b q j)
       → At b T (holds (sectionPage q j i)) (sectionPlace b q + (pagesBefore b q j + i))
-  unfolding sectionPlace part process
+  unfolding allSections sectionPlace part process choose
   place-section q j i lo hi h l =
       let u : Use = holds (sectionPage q j i) in
       elim (ℕ-discrete q 1) [
-        | yes e ↦ rw e (at-kernel (holds (sectionPage 1 j i)) _ (omega arith) (λ _. refl) (first-at-left _ _ _ _ (in-sections 1 j i (rw e at h) (rw e at l))))
+        | yes e ↦ rw e (first-at-cast
+            (at-sections (holds (sectionPage 1 j i)) _ (omega arith)
+            (first-at-right _ (gather (processCount b - 1) (λ i. sectionUses b (i + 2))) _ _ (not-users b _ _ (λ _ i _ p. omega arith))
+            (in-sections 1 j i (rw e at h) (rw e at l))))
+            (simp user-uses-length (omega arith)))
         | no e ↦
             let s : q - 2 + 2 ≡ q = omega arith in
             let c : choose (eqb q 1) (processCount b - 1) (q - 2) ≡ q - 2 = choose-no _ _ (ne-eqb q 1 e) in
             let f : FirstAt (sameUse u) (sectionUses b (q - 2 + 2)) (pagesBefore b q j + i) = rw s (in-sections q j i h l) in
             first-at-cast
-            (at-users u _ (omega arith) (first-at-gather (sameUse u) _ (λ i. sectionUses b (i + 2)) (q - 2) _ (omega arith)
-            (λ m k. not-sections b u (m + 2) (λ _ p. omega arith)) f))
+            (at-sections u _ (omega arith) (first-at-left _ _ _ _ (first-at-gather (sameUse u) _ (λ i. sectionUses b (i + 2)) (q - 2) _ (omega arith)
+            (λ m k. not-sections b u (m + 2) (λ _ p. omega arith)) f)))
             (simp user-uses-length (rw c (omega arith)))
       ]
 
   pub place-tracker : (i : ℕ) → i < T → At b T (holds (trackerPage i)) (trackerPlace b + i)
-  unfolding part page
+  unfolding trackerUses part page
   place-tracker i h =
       let u : Use = holds (trackerPage i) in
       at-after u i (omega arith) (first-at-left _ _ _ i
@@ -260,7 +275,7 @@ module _ (b : List ℕ) (T : ℕ) where
 
   -- element i of process q's tables
   in-tables : (q i : ℕ) (u : Use) → 1 ≤ q → q ≤ processCount b → part u ≡ 5 → process u ≡ q → FirstAt (sameUse u) (tableUses b q) i → At b T u (rootPlace b T q + i)
-  unfolding rootPlace part process
+  unfolding allTables rootPlace part process
   in-tables q i u lo hi p o f =
       let s : q - 1 + 1 ≡ q = omega arith in
       let g : FirstAt (sameUse u) (tableUses b (q - 1 + 1)) i = rw s f in

@@ -9,47 +9,53 @@ use native.Mathlib.Omega.{arith}
 use lib.ListN.{length}
 use Rattle.notation.specs.Choice.{choose}
 use Rattle.notation.specs.Lists.{tab, gather, countBefore}
-use Rattle.rules.specs.Block.{processCount, sectionsOf, sectionRecord, pageCount}
+use Rattle.rules.specs.Block.{processCount, sectionsOf, sectionRecord}
 use Rattle.rules.specs.Space.{Data-discrete, sectionPage, trackerPage, processList, blockCopy}
-use Rattle.rules.specs.Order.{Use, Use-discrete, top, holds, rootTable, leafTable, sectionUses, hasLeaf, tableUses, order, uses, pagesNeeded, freePages, useOf, sameUse, ramPage}
+use Rattle.rules.specs.Order.{Use, Use-discrete, top, holds, rootTable, leafTable, pagesTaken, sectionPages, sectionUses, allSections, trackerUses, hasLeaf, tableUses, allTables, belowTop, order, uses, pagesNeeded, freePages, useOf, sameUse, ramPage}
 use Rattle.laws.specs.Choice.{by-test}
 use Rattle.laws.specs.Lists.{Occurs, occurs-here, occurs-there, occurs-left, occurs-right, occurs-tab, occurs-gather, First, count-before-finds, lookup-inside, lookup-outside, lookup-left, lookup-tab}
 
 -- IN THE ORDER
 module _ (b : List ℕ) (T : ℕ) where
-  placed-section : (q j i : ℕ) → j < sectionsOf b q → i < pageCount b (sectionRecord b q j) → Occurs (sectionUses b q) (holds (sectionPage q j i))
-  unfolding sectionUses
+  placed-section : (q j i : ℕ) → j < sectionsOf b q → i < pagesTaken b (sectionRecord b q j) → Occurs (sectionUses b q) (holds (sectionPage q j i))
+  unfolding sectionUses sectionPages
   placed-section q j i h l = occurs-gather _ _ j h (occurs-tab _ (λ i. holds (sectionPage q j i)) i l)
 
-  pub order-section : (q j i : ℕ) → 1 ≤ q → q ≤ processCount b → j < sectionsOf b q → i < pageCount b (sectionRecord b q j)
-      → Occurs (order b T) (holds (sectionPage q j i))
-  unfolding order
-  order-section q j i lo hi h l = occurs-right (tab 4 top) _ (elim (ℕ-discrete q 1) [
-    | yes e ↦ rw e (occurs-right (gather _ _) _ (occurs-left _ _ (rw e at (placed-section q j i h l))))
+  in-sections : (q j i : ℕ) → 1 ≤ q → q ≤ processCount b → j < sectionsOf b q → i < pagesTaken b (sectionRecord b q j)
+      → Occurs (allSections b) (holds (sectionPage q j i))
+  unfolding allSections
+  in-sections q j i lo hi h l = elim (ℕ-discrete q 1) [
+    | yes e ↦ rw e (occurs-right (gather _ _) _ (rw e at (placed-section q j i h l)))
     | no e ↦
         let s : q - 2 + 2 ≡ q = omega arith in
         occurs-left _ _ (occurs-gather _ (λ i. sectionUses b (i + 2)) (q - 2) (omega arith) (rw s (placed-section q j i h l)))
-  ])
+  ]
+
+  pub order-section : (q j i : ℕ) → 1 ≤ q → q ≤ processCount b → j < sectionsOf b q → i < pagesTaken b (sectionRecord b q j)
+      → Occurs (order b T) (holds (sectionPage q j i))
+  unfolding order belowTop
+  order-section q j i lo hi h l = occurs-right (tab 4 top) _ (occurs-left (allSections b) _ (in-sections q j i lo hi h l))
 
   -- an element of what follows the sections
-  after-sections : (u : Use) → Occurs (tab T (λ i. holds (trackerPage i)) ++ (holds processList ∷ holds blockCopy ∷ gather (processCount b) (λ i. tableUses b (i + 1)))) u
-      → Occurs (order b T) u
-  unfolding order
-  after-sections u o = occurs-right (tab 4 top) _ (occurs-right (gather _ _) _ (occurs-right (sectionUses b 1) _ o))
+  after-sections : (u : Use) → Occurs (trackerUses T ++ (holds processList ∷ holds blockCopy ∷ allTables b)) u → Occurs (order b T) u
+  unfolding order belowTop
+  after-sections u o = occurs-right (tab 4 top) _ (occurs-right (allSections b) _ o)
 
   pub order-tracker : (i : ℕ) → i < T → Occurs (order b T) (holds (trackerPage i))
+  unfolding trackerUses
   order-tracker i h = after-sections _ (occurs-left _ _ (occurs-tab T (λ i. holds (trackerPage i)) i h))
 
   pub order-process-list : Occurs (order b T) (holds processList)
-  order-process-list = after-sections _ (occurs-right (tab T _) _ (occurs-here _ _))
+  order-process-list = after-sections _ (occurs-right (trackerUses T) _ (occurs-here _ _))
 
   pub order-block-copy : Occurs (order b T) (holds blockCopy)
-  order-block-copy = after-sections _ (occurs-right (tab T _) _ (occurs-there _ _ (occurs-here _ _)))
+  order-block-copy = after-sections _ (occurs-right (trackerUses T) _ (occurs-there _ _ (occurs-here _ _)))
 
   order-table : (q : ℕ) (u : Use) → 1 ≤ q → q ≤ processCount b → Occurs (tableUses b q) u → Occurs (order b T) u
+  unfolding allTables
   order-table q u lo hi o =
       let s : q - 1 + 1 ≡ q = omega arith in
-      after-sections u (occurs-right (tab T _) _ (occurs-there _ _ (occurs-there _ _
+      after-sections u (occurs-right (trackerUses T) _ (occurs-there _ _ (occurs-there _ _
       (occurs-gather _ (λ i. tableUses b (i + 1)) (q - 1) (omega arith) (rw s o)))))
 
   pub order-root : (q : ℕ) → 1 ≤ q → q ≤ processCount b → Occurs (order b T) (rootTable q)

@@ -12,10 +12,12 @@ use lib.Dec.{eqb}
 use borrow.Author.Tests.{eqb-true, eqb-false}
 use Rattle.notation.specs.Choice.{choose}
 use Rattle.notation.specs.Lists.{lookup}
+use Rattle.types.specs.declared.Area.{Area}
 use Rattle.types.specs.declared.Verdict.{Verdict}
-use Rattle.rules.specs.Refusals.{Check, whole, records, refused, accepted, firstRecord, firstRefusal, sectionRefusal, checks}
+use Rattle.rules.specs.Lent.{Image}
+use Rattle.rules.specs.Refusals.{Check, whole, records, refused, accepted, firstRecord, firstRefusal, sectionRefusal, lentChecks, headerChecks, recordChecks, checks, verdict}
 use Rattle.laws.specs.Choice.{by-choose}
-use Rattle.laws.specs.Lists.{Every, every-at}
+use Rattle.laws.specs.Lists.{Every, _and_, every-at}
 
 -- nothing is wrong at a check
 abbrev pub Passes : Check → Type 0
@@ -92,7 +94,7 @@ pass {c} {cs} p (inr d) =
     same-check : (c c′ : Check) → some c ≡ some c′ → Passes c → Passes c′
     same-check c c′ e p = let q : c ≡ c′ = cc in rw q at p
 
-pub decided : (cs : List Check) → Every Numbered cs → Decided cs (firstRefusal cs)
+decided : (cs : List Check) → Every Numbered cs → Decided cs (firstRefusal cs)
 unfolding firstRefusal lookup refused
 decided [] ns = inl (tt, refl)
 decided (whole n c ∷ cs) ns =
@@ -133,43 +135,18 @@ unfolding sectionRefusal
 section-number b flash n =
     by-choose (λ m. m ≤ 12) _ 7 _ (λ _. omega arith) (λ _. by-choose (λ m. m ≤ 12) _ 8 _ (λ _. omega arith) (λ _. one-number _ 9 (omega arith)))
 
-pub numbered : (b : List ℕ) (flash start len : ℕ) → Every Numbered (checks b flash start len)
-unfolding checks
-numbered b flash start len = (
-  omega arith,
-  (
-    omega arith,
-    (
-      omega arith,
-      (
-        omega arith,
-        (
-          omega arith,
-          (
-            (λ i. one-number _ 6 (omega arith)),
-            (
-              section-number b flash,
-              (
-                (λ i. one-number _ 10 (omega arith)),
-                (
-                  (λ i. one-number _ 11 (omega arith)),
-                  (omega arith, tt),
-                ),
-              ),
-            ),
-          ),
-        ),
-      ),
-    ),
-  ),
-)
+numbered : (x : Image) (ram : Area) → Every Numbered (checks x ram)
+unfolding checks lentChecks headerChecks recordChecks
+numbered x ram =
+    (omega arith) and (omega arith) and (omega arith) and (omega arith) and (omega arith) and (λ i. one-number _ 6 (omega arith)) and section-number (x .block) _
+    and (λ i. one-number _ 10 (omega arith)) and (λ i. one-number _ 11 (omega arith)) and (omega arith) and tt
 
 -- a check does not pass and refuse at once
 pub not-both : (c : Check) (n place : ℕ) → 1 ≤ n → Passes c → Refuses c n place → ⊥
 not-both (whole m c) n place h p r = let z : _≡_ {A = ℕ} 0 1 = cc in omega arith
 not-both (records m f) n place h p r = omega (arith, p place (r .0), r .1)
 
-pub all-pass : (cs : List Check) (v : Verdict) → Decided cs v → (v .number ≡ 0) ↔ Every Passes cs
+all-pass : (cs : List Check) (v : Verdict) → Decided cs v → (v .number ≡ 0) ↔ Every Passes cs
 unfolding accepted refused
 all-pass cs v (inl d) = ((λ _. d .0), (λ _. rw (d .1)))
 all-pass cs v (inr d) = (
@@ -177,8 +154,18 @@ all-pass cs v (inr d) = (
   (λ ps. absurd (not-both (d .2 .check) (v .number) (v .place) (d .0) (every-at Passes cs (d .2 .step) ps (d .2 .there)) (d .2 .cause))),
 )
 
-pub first-cause : (cs : List Check) (v : Verdict) → Decided cs v → v .number ≢ 0
+first-cause : (cs : List Check) (v : Verdict) → Decided cs v → v .number ≢ 0
     → (1 ≤ v .number) × (v .number ≤ 12) × FirstCause cs (v .number) (v .place)
 unfolding accepted refused
 first-cause cs v (inl d) h = absurd (h (rw (d .1)))
 first-cause cs v (inr d) h = d
+
+-- THE VERDICT: number 0 exactly where every check passes; else the first cause
+pub verdict-passes : (x : Image) (ram : Area) → (verdict x ram .number ≡ 0) ↔ Every Passes (checks x ram)
+unfolding verdict
+verdict-passes x ram = all-pass _ _ (decided (checks x ram) (numbered x ram))
+
+pub verdict-refuses : (x : Image) (ram : Area) → verdict x ram .number ≢ 0
+    → (1 ≤ verdict x ram .number) × (verdict x ram .number ≤ 12) × FirstCause (checks x ram) (verdict x ram .number) (verdict x ram .place)
+unfolding verdict
+verdict-refuses x ram = first-cause _ _ (decided (checks x ram) (numbered x ram))

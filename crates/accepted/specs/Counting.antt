@@ -1,6 +1,6 @@
 -- The pages of the order, counted.
 use mathlib.Core.Path.{_≡_, refl, _∙_}
-use mathlib.Core.List.{List}
+use mathlib.Core.List.{List, _++_}
 use mathlib.Core.Bool.{Bool, true, false}
 use Prim.Native.Nat.{ℕ, _+_, _-_, _/_, _≤_}
 use native.Mathlib.Omega.{arith}
@@ -10,17 +10,18 @@ use borrow.Author.Tests.{ne-eqb}
 use Rattle.notation.specs.Choice.{choose}
 use Rattle.notation.specs.Lists.{tab, gather, lookup, count, sum}
 use Rattle.rules.specs.Block.{processCount, ioPages}
-use Rattle.rules.specs.Order.{Use, top, sectionUses, hasLeaf, tableUses, order, uses, pagesFor, trackerPages, pagesNeeded, freePages, pagesOf, useOf, dataOwner, useOwner, owner}
+use Rattle.rules.specs.Order.{Use, top, sectionPages, sectionUses, allSections, trackerUses, hasLeaf, tableUses, allTables, belowTop, order, uses, pagesFor, trackerPages, pagesNeeded, freePages, pagesOf, useOf, dataOwner, useOwner, owner}
 use Rattle.rules.specs.Contents.{tracker}
 use Rattle.laws.specs.Choice.{by-choose, choose-yes, choose-no}
-use Rattle.laws.specs.Lists.{Every, every-map, every-append, every-tab, every-gather, tab-length}
+use Rattle.laws.specs.Lists.{Every, _and_, every-map, every-append, every-tab, every-gather, tab-length}
 use Rattle.laws.specs.Counts.{one, sum-reverse, count-none, count-tab, count-classes, count-lookups}
-use Rattle.demands.specs.Loaded.{tracker-ram}
+use Rattle.placement.specs.Places.{tracker-uses-length}
+use Rattle.accepted.specs.Tracker.{tracker-ram}
 
 -- HOW MANY: the tracker's pages and the rest, which depends on the block alone
 pub order-length : (b : List ℕ) (T : ℕ) → length (order b T) ≡ length (order b 0) + T
-unfolding order tab
-order-length b T = simp (length-append, tab-length) (omega arith)
+unfolding order belowTop
+order-length b T = simp (length-append, tab-length, tracker-uses-length) (omega arith)
 
 -- the four at the top are there
 pub order-top : (b : List ℕ) (T : ℕ) → 4 ≤ length (order b T)
@@ -50,7 +51,7 @@ module _ (b : List ℕ) (p : 1 ≤ processCount b) where
   Owned u = (1 ≤ useOwner u) × (useOwner u ≤ processCount b)
 
   sections-owned : (q : ℕ) → 1 ≤ q → q ≤ processCount b → Every Owned (sectionUses b q)
-  unfolding sectionUses useOwner dataOwner
+  unfolding sectionUses sectionPages useOwner dataOwner
   sections-owned q lo hi = every-gather Owned _ _ (λ j _. every-tab Owned _ _ (λ i _. (lo, hi)))
 
   tables-owned : (q : ℕ) → Every Owned (tableUses b q)
@@ -58,13 +59,13 @@ module _ (b : List ℕ) (p : 1 ≤ processCount b) where
   tables-owned q = ((omega arith, p), every-gather Owned 1024 _ (λ m _. by-choose (Every Owned) (hasLeaf b q m) _ _ (λ _. ((omega arith, p), tt)) (λ _. tt)))
 
   pub order-owned : (T : ℕ) → Every Owned (order b T)
-  unfolding order useOwner dataOwner
+  unfolding order belowTop allSections trackerUses allTables useOwner dataOwner
   order-owned T =
       every-append Owned (tab 4 top) _ (every-tab Owned 4 top (λ i _. (omega arith, p)))
-      (every-append Owned (gather _ _) _ (every-gather Owned _ _ (λ i h. sections-owned (i + 2) (omega arith) (omega arith)))
-      (every-append Owned (sectionUses b 1) _ (sections-owned 1 (omega arith) p)
+      (every-append Owned (gather _ _ ++ _) _
+      (every-append Owned (gather _ _) _ (every-gather Owned _ _ (λ i h. sections-owned (i + 2) (omega arith) (omega arith))) (sections-owned 1 (omega arith) p))
       (every-append Owned (tab T _) _ (every-tab Owned T _ (λ i _. (omega arith, p)))
-      ((omega arith, p), ((omega arith, p), every-gather Owned _ _ (λ i _. tables-owned (i + 1)))))))
+      ((omega arith, p) and (omega arith, p) and every-gather Owned _ _ (λ i _. tables-owned (i + 1)))))
 
 -- THE TRACKER'S BYTES FOR RAM, counted by a test
 tracker-count : (b : List ℕ) (N : ℕ) (t : ℕ → Bool) → pagesNeeded b N ≤ N

@@ -1,5 +1,5 @@
--- The sections of a block with no cause of a refusal: each has one owner, lies in its range, and they rise page by page; so at each of its
--- virtual pages a process has the one section, and neither the stack nor a page of the kernel's own stands over it.
+-- The sections of a block with no cause of a refusal: each has one owner, lies in its range, and they rise page by page; so a virtual page
+-- is of one section of a process at most.
 use mathlib.Core.Path.{_≡_, sym, ap, _∙_}
 use mathlib.Core.Logic.{_≢_, _⊎_, inl, inr}
 use mathlib.Core.List.{List}
@@ -10,18 +10,28 @@ use native.Mathlib.Decide.{ℕ-discrete, decLt}
 use native.Mathlib.Nat.{not-suc-le-zero}
 use native.Mathlib.Numerals.{add-one}
 use native.Mathlib.Omega.{arith}
+use lib.ListN.{length}
 use lib.Dec.{leb, ltb, eqb}
 use borrow.Author.Tests.{eqb-true, eqb-false, eq-eqb, ne-eqb, leb-true, leb-false, ltb-true, ltb-false, le-leb, lt-ltb, lt-leb, not-false}
 use Rattle.notation.specs.Choice.{choose}
 use Rattle.notation.specs.Lists.{findLast}
-use Rattle.rules.specs.Block.{processCount, sectionCount, sectionsOf, firstSection, sectionRecord, address, size, flashOffset, noCopy, writable, executable, sectionEnd, firstPage, lastPage}
+use Rattle.types.specs.declared.Area.{Area}
+use Rattle.rules.specs.Lent.{Image}
+use Rattle.rules.specs.Block.{stackFirst, processCount, sectionCount, sectionsOf, firstSection, sectionRecord, address, size, flashOffset, noCopy, writable, executable, sectionEnd, firstPage, lastPage}
 use Rattle.rules.specs.Refusals.{sectionsBefore, processUnfit, sectionUnfit, hasSection, ownerOf, rangeFirst, rangeLast, sectionMisplaced, sectionPastFlash}
-use Rattle.rules.specs.Space.{Mapping, maps, sectionPage, hasPage, sectionMapping, sectionAtPage, inTracker, kernelPage, inStack, userPage, mappingAt}
+use Rattle.rules.specs.Space.{hasPage, sectionMapping, sectionAtPage}
 use Rattle.laws.specs.Choice.{false-not-true, choose-lt, and-both, and-left, and-right, and-rest, any-none}
 use Rattle.laws.specs.Lists.{by-find-last}
 use Rattle.laws.specs.Counts.{sum-none, sum-le, sum-next}
-use Rattle.demands.specs.NoCause.{NoCause}
-use Rattle.demands.specs.Mappings.{has-page-first, has-page-last}
+use Rattle.accepted.specs.NoCause.{NoCause}
+
+pub has-page-first : (b : List ℕ) (v n : ℕ) → hasPage b v n ≡ true → firstPage b n ≤ v
+unfolding hasPage
+has-page-first b v n e = leb-true _ _ (and-left _ _ e)
+
+pub has-page-last : (b : List ℕ) (v n : ℕ) → hasPage b v n ≡ true → v ≤ lastPage b n
+unfolding hasPage
+has-page-last b v n e = leb-true _ _ (and-right (leb (firstPage b n) v) _ e)
 
 -- the sum of the counts of no process, and up to and with process q
 sections-before-none : (b : List ℕ) → sectionsBefore b 0 ≡ 0
@@ -36,19 +46,26 @@ sections-before-le : (b : List ℕ) (i k : ℕ) → i ≤ k → sectionsBefore b
 unfolding sectionsBefore
 sections-before-le b i k h = sum-le i k _ h
 
-module _ (b : List ℕ) (flash start len : ℕ) (ok : NoCause b flash start len) where
+range-in-space : (b : List ℕ) (q : ℕ) → rangeLast b q < 0xFFFF_FFFF
+unfolding rangeLast stackFirst
+range-in-space b q = choose-lt (eqb q 1) _ _ 0xFFFF_FFFF (omega arith) (omega arith)
+
+module _ (x : Image) (ram : Area) (ok : NoCause x ram) where
+  abbrev b : List ℕ
+  b = x .block
+
   -- 6: the sections of process q come after those of the processes before it, and s has room for them
   first-is : (q : ℕ) → 1 ≤ q → q ≤ processCount b → firstSection b q ≡ sectionsBefore b (q - 1)
   unfolding processUnfit
   first-is q lo hi =
-      let f : firstSection b (q - 1 + 1) ≡ sectionsBefore b (q - 1) = eqb-true _ _ (not-false _ (any-none _ (ok .process (q - 1) (omega arith)) 2)) in
+      let f : firstSection b (q - 1 + 1) ≡ sectionsBefore b (q - 1) = eqb-true _ _ (not-false _ (any-none _ (ok .process-fit (q - 1) (omega arith)) 2)) in
       let e : q - 1 + 1 ≡ q = omega arith in
       rw e at f
 
   sum-fits : (q : ℕ) → 1 ≤ q → q ≤ processCount b → sectionsBefore b q ≤ sectionCount b
   unfolding processUnfit
   sum-fits q lo hi =
-      let f : sectionsBefore b (q - 1 + 1) ≤ sectionCount b = ltb-false _ _ (any-none _ (ok .process (q - 1) (omega arith)) 3) in
+      let f : sectionsBefore b (q - 1 + 1) ≤ sectionCount b = ltb-false _ _ (any-none _ (ok .process-fit (q - 1) (omega arith)) 3) in
       let e : q - 1 + 1 ≡ q = omega arith in
       rw e at f
 
@@ -94,16 +111,16 @@ module _ (b : List ℕ) (flash start len : ℕ) (ok : NoCause b flash start len)
     pub section-size : 1 ≤ size b (sectionRecord b q j)
     unfolding sectionUnfit
     section-size =
-        let z : size b (sectionRecord b q j) ≢ 0 = eqb-false _ _ (any-none _ (ok .section _ record-in .0) 0) in
+        let z : size b (sectionRecord b q j) ≢ 0 = eqb-false _ _ (any-none _ (ok .section-fit _ record-in) 0) in
         elim (ℕ-discrete (size b (sectionRecord b q j)) 0) [ yes e ↦ absurd (z e) | no e ↦ omega arith ]
 
     pub section-from : rangeFirst q ≤ address b (sectionRecord b q j)
     unfolding sectionMisplaced
-    section-from = rw owner-is at (ltb-false _ (rangeFirst (ownerOf b (sectionRecord b q j))) (any-none _ (ok .section _ record-in .1) 0))
+    section-from = rw owner-is at (ltb-false _ (rangeFirst (ownerOf b (sectionRecord b q j))) (any-none _ (ok .section-placed _ record-in) 0))
 
-    pub section-to : sectionEnd b (sectionRecord b q j) ≤ rangeLast q + 1
+    pub section-to : sectionEnd b (sectionRecord b q j) ≤ rangeLast b q + 1
     unfolding sectionMisplaced
-    section-to = rw owner-is at (ltb-false (rangeLast (ownerOf b (sectionRecord b q j)) + 1) _ (any-none _ (ok .section _ record-in .1) 1))
+    section-to = rw owner-is at (ltb-false (rangeLast b (ownerOf b (sectionRecord b q j)) + 1) _ (any-none _ (ok .section-placed _ record-in) 1))
 
     first-le-last : firstPage b (sectionRecord b q j) ≤ lastPage b (sectionRecord b q j)
     unfolding firstPage lastPage sectionEnd
@@ -111,17 +128,17 @@ module _ (b : List ℕ) (flash start len : ℕ) (ok : NoCause b flash start len)
 
     -- 9: without NOCOPY its bytes are in flash
     pub section-in-flash : (k : ℕ) → k < size b (sectionRecord b q j) → noCopy b (sectionRecord b q j) ≡ false
-        → flashOffset b (sectionRecord b q j) + k < flash
+        → flashOffset b (sectionRecord b q j) + k < length (x .flash)
     unfolding sectionPastFlash
     section-in-flash k h copied =
         let y : not (noCopy b (sectionRecord b q j)) ≡ true = rw copied in
-        omega (arith, ltb-false flash (flashOffset b (sectionRecord b q j) + size b (sectionRecord b q j)) (and-rest y (ok .section _ record-in .2)))
+        omega (arith, ltb-false (length (x .flash)) (flashOffset b (sectionRecord b q j) + size b (sectionRecord b q j)) (and-rest y (ok .section-in-flash _ record-in)))
 
     pub section-in-space : (k : ℕ) → k < size b (sectionRecord b q j) → address b (sectionRecord b q j) + k < 0x1_0000_0000
-    unfolding sectionEnd rangeLast
+    unfolding sectionEnd
     section-in-space k h =
-        let e : address b (sectionRecord b q j) + size b (sectionRecord b q j) ≤ rangeLast q + 1 = section-to in
-        omega (arith, choose-lt (eqb q 1) 0xFFEF_FFFF 0x7FFF_BFFF 0xFFFF_FFFF (omega arith) (omega arith))
+        let e : address b (sectionRecord b q j) + size b (sectionRecord b q j) ≤ rangeLast b q + 1 = section-to in
+        omega (arith, range-in-space b q)
 
   -- 6: each section record is some process's, and `ownerOf` names it
   covered : (m n : ℕ) → n < sectionsBefore b m → (i : ℕ) × (i < m) × (sectionsBefore b i ≤ n) × (n < sectionsBefore b (i + 1))
@@ -136,7 +153,7 @@ module _ (b : List ℕ) (flash start len : ℕ) (ok : NoCause b flash start len)
   last-sum some-process =
       let i : ℕ = processCount b - 1 in
       let e : i + 1 ≡ processCount b = omega arith in
-      let f : (eqb (i + 1) (processCount b) && not (eqb (sectionsBefore b (i + 1)) (sectionCount b))) ≡ false = any-none _ (ok .process i (omega arith)) 4 in
+      let f : (eqb (i + 1) (processCount b) && not (eqb (sectionsBefore b (i + 1)) (sectionCount b))) ≡ false = any-none _ (ok .process-fit i (omega arith)) 4 in
       rw e at (eqb-true (sectionsBefore b (i + 1)) (sectionCount b) (not-false _ (and-rest (eq-eqb (i + 1) (processCount b) e) f)))
 
   pub section-owner : (n : ℕ) → 1 ≤ processCount b → n < sectionCount b
@@ -165,7 +182,7 @@ module _ (b : List ℕ) (flash start len : ℕ) (ok : NoCause b flash start len)
       let first : n ≢ firstSection b q = unfold sectionRecord in λ e. omega arith in
       let o : ownerOf b n ≡ q = owner-is q (suc j) lo hi h in
       let later : not (eqb n (firstSection b (ownerOf b n))) ≡ true = rw (o, ne-eqb n (firstSection b q) first) in
-      let above : lastPage b (n - 1) < firstPage b n = leb-false _ _ (and-rest later (any-none _ (ok .section n (record-in q (suc j) lo hi h) .1) 2)) in
+      let above : lastPage b (n - 1) < firstPage b n = leb-false _ _ (and-rest later (any-none _ (ok .section-placed n (record-in q (suc j) lo hi h)) 2)) in
       rw p at above
 
   above : (q j k : ℕ) → 1 ≤ q → q ≤ processCount b → j < k → k < sectionsOf b q → lastPage b (sectionRecord b q j) < firstPage b (sectionRecord b q k)
@@ -186,54 +203,23 @@ module _ (b : List ℕ) (flash start len : ℕ) (ok : NoCause b flash start len)
     ]
   ]
 
-  section-at-page : (q j v : ℕ) (u : Bool) → 1 ≤ q → q ≤ processCount b → j < sectionsOf b q → hasPage b v (sectionRecord b q j) ≡ true
-      → sectionAtPage b q v u ≡ sectionMapping b q v u (some j)
+  pub section-at-page : (q j v : ℕ) → 1 ≤ q → q ≤ processCount b → j < sectionsOf b q → hasPage b v (sectionRecord b q j) ≡ true
+      → sectionAtPage b q v ≡ sectionMapping b q v (some j)
   unfolding sectionAtPage
-  section-at-page q j v u lo hi hj e =
-      by-find-last (λ j. hasPage b v (sectionRecord b q j)) (λ m. sectionMapping b q v u m ≡ sectionMapping b q v u (some j)) (sectionsOf b q)
+  section-at-page q j v lo hi hj e =
+      by-find-last (λ j. hasPage b v (sectionRecord b q j)) (λ m. sectionMapping b q v m ≡ sectionMapping b q v (some j)) (sectionsOf b q)
       (λ nobody. false-not-true (nobody j hj) e)
-      (λ k f l. ap (λ (k : ℕ). sectionMapping b q v u (some k)) (one-section q j k v lo hi hj l e f))
+      (λ k f l. ap (λ (k : ℕ). sectionMapping b q v (some k)) (one-section q j k v lo hi hj l e f))
 
   -- the pages of a section are pages of its owner's range
-  page-from : (q j v : ℕ) → 1 ≤ q → q ≤ processCount b → j < sectionsOf b q → hasPage b v (sectionRecord b q j) ≡ true → rangeFirst q / 4096 ≤ v
+  pub page-from : (q j v : ℕ) → 1 ≤ q → q ≤ processCount b → j < sectionsOf b q → hasPage b v (sectionRecord b q j) ≡ true → rangeFirst q / 4096 ≤ v
   unfolding firstPage
   page-from q j v lo hi hj e =
       let f : address b (sectionRecord b q j) / 4096 ≤ v = has-page-first b v (sectionRecord b q j) e in
       omega (arith, section-from q j lo hi hj)
 
-  page-to : (q j v : ℕ) → 1 ≤ q → q ≤ processCount b → j < sectionsOf b q → hasPage b v (sectionRecord b q j) ≡ true → v ≤ rangeLast q / 4096
+  pub page-to : (q j v : ℕ) → 1 ≤ q → q ≤ processCount b → j < sectionsOf b q → hasPage b v (sectionRecord b q j) ≡ true → v ≤ rangeLast b q / 4096
   unfolding lastPage
   page-to q j v lo hi hj e =
       let f : v ≤ (sectionEnd b (sectionRecord b q j) - 1) / 4096 = has-page-last b v (sectionRecord b q j) e in
       omega (arith, section-to q j lo hi hj)
-
-  -- WHAT STANDS AT A PAGE OF A SECTION: of a section of the kernel's, in every process
-  kernel-section-page : (T q j v : ℕ) → 1 ≤ processCount b → j < sectionsOf b 1 → hasPage b v (sectionRecord b 1 j) ≡ true
-      → mappingAt b T q v ≡ sectionMapping b 1 v false (some j)
-  unfolding mappingAt kernelPage inTracker rangeFirst rangeLast choose
-  kernel-section-page T q j v some-process hj e =
-      let from : 0xFFC00 ≤ v = page-from 1 j v (omega arith) some-process hj e in
-      let to : v ≤ 0xFFEFF = page-to 1 j v (omega arith) some-process hj e in
-      rw (eq-eqb (v / 1024) 1023 (omega arith), ne-eqb v 0xFFF80 (λ y. omega arith), lt-leb 0xFFF40 v (omega arith), ne-eqb v 0xFFF00 (λ y. omega arith))
-      (section-at-page 1 j v false (omega arith) some-process hj e)
-
-  user-range : (q : ℕ) → q ≢ 1 → rangeLast q ≡ 0x7FFF_BFFF
-  unfolding rangeLast choose
-  user-range q user = rw (ne-eqb q 1 user)
-
-  user-section-page : (T q j v : ℕ) → q ≢ 1 → 1 ≤ q → q ≤ processCount b → j < sectionsOf b q → hasPage b v (sectionRecord b q j) ≡ true
-      → mappingAt b T q v ≡ sectionMapping b q v true (some j)
-  unfolding mappingAt userPage inStack choose
-  user-section-page T q j v user lo hi hj e =
-      let to : v ≤ 0x7FFFB = omega (arith, page-to q j v lo hi hj e, user-range q user) in
-      rw (ne-eqb (v / 1024) 1023 (λ y. omega arith), ne-eqb q 1 user, lt-leb 0x7FFFC v (omega arith)) (section-at-page q j v true lo hi hj e)
-
-  -- of a section of process p, in process q: its own and the kernel's
-  pub section-page : (T q p j v : ℕ) → 1 ≤ q → q ≤ processCount b → (p ≡ q) ⊎ (p ≡ 1) → j < sectionsOf b p → hasPage b v (sectionRecord b p j) ≡ true
-      → mappingAt b T q v ≡ sectionMapping b p v (not (eqb p 1)) (some j)
-  section-page T q p j v lo hi of hj e = elim (ℕ-discrete p 1) [
-    | yes k ↦ rw k (kernel-section-page T q j v (omega arith) (rw k at hj) (rw k at e))
-    | no u ↦
-        let own : p ≡ q = elim of [ inl o ↦ o | inr k ↦ absurd (u k) ] in
-        rw (ne-eqb p 1 u, ← own) (user-section-page T p j v u (omega arith) (omega arith) hj e)
-  ]
