@@ -1,8 +1,8 @@
 // The boot block's records, read from any bytes: what lies past their end counts as 0.
 ghost use mathlib.Core.Path.{_≡_};
-ghost use Prim.Native.Nat.{ℕ, _+_, _<_};
+ghost use Prim.Native.Nat.{ℕ, _+_, _≤_, _<_};
 ghost use Rattle.notation.specs.Words.{word};
-ghost use Rattle.rules.specs.Block.{sectionAt};
+ghost use Rattle.rules.specs.Block.{stackPages, sectionAt};
 ghost use Rattle.records.specs.Read.{IsProcess, IsSection, IsRegion};
 use types::VirtPage;
 
@@ -14,7 +14,7 @@ pub struct Process {
     pub kind: u32,
 }
 
-// A section record, its flags by name, and its virtual pages.
+// A section record, its flags by name, its virtual pages, and how many pages it takes in RAM.
 pub struct Section {
     pub address: u32,
     pub size: u32,
@@ -35,17 +35,31 @@ pub struct Region {
     pub end: u64,
 }
 
-// The record of process q, which is record q - 1. There is no process 0: its record would be that of process 1.
-pub fn read_process(block: &[u8], q: u32) -> Process
-    ensures { λ r. ⌜ IsProcess (now (block .entry)) q r ⌝ }
+// Process record i, which is that of process i + 1.
+pub fn read_process_record(block: &[u8], i: u32) -> Process
+    ensures { λ r. ⌜ IsProcess (now (block .entry)) (i + 1) r ⌝ }
 {
-    let at = 32 + 16 * numbers::minus(q as usize, 1);
+    let at = 32 + 16 * (i as usize);
     Process {
         entry_point: slices::word(block, at),
         first_section: slices::word(block, at + 4),
         sections: slices::word(block, at + 8),
         kind: slices::word(block, at + 12),
     }
+}
+
+// The record of process q, which is record q - 1. There is no process 0: its record would be that of process 1.
+pub fn read_process(block: &[u8], q: u32) -> Process
+    ensures { λ r. ⌜ IsProcess (now (block .entry)) q r ⌝ }
+{
+    read_process_record(block, numbers::minus(q as usize, 1) as u32)
+}
+
+// The pages of process q's stack reservation; the kernel has none.
+pub fn stack_pages(block: &[u8], q: u32) -> u32
+    ensures { λ r. ⌜ (r ≡ stackPages (now (block .entry)) q) × (r ≤ 255) ⌝ }
+{
+    if q == 1 { 0 } else { 4 }
 }
 
 // Where the words of section record n are read. Past the end all words are 0, and 16 n might wrap.
@@ -55,7 +69,7 @@ fn section_offset(block: &[u8], n: usize) -> usize
     if block.len() / 16 < n {
         return block.len();
     }
-    32 + 16 * (counts::process_count(block) as usize) + 16 * n
+    counts::sections_at(block) + 16 * n
 }
 
 // Section record n. (Its pages are counted from its address: a size / 4,096 rounded up would miss one.)
@@ -87,8 +101,7 @@ pub fn read_section(block: &[u8], n: usize) -> Section
 pub fn read_region(block: &[u8], i: u32) -> Region
     ensures { λ r. ⌜ IsRegion (now (block .entry)) i r ⌝ }
 {
-    let sections_at = 32 + 16 * (counts::process_count(block) as usize);
-    let at = sections_at + 16 * (counts::section_count(block) as usize) + 8 * (i as usize);
+    let at = counts::regions_at(block) + 8 * (i as usize);
     let start = slices::word(block, at);
     let pages = slices::word(block, at + 4);
     Region {

@@ -1,4 +1,4 @@
-use Rattle.pages.proofs.Laws.{block-page-is}
+use Rattle.pages.proofs.Copied.{block-page-is}
 use borrow.Author.Needs.{needs}
 use Rattle.pages.proofs.block_page.Statement.{statement}
 use Rattle.pages.proofs.block_page.Tie as tie

@@ -1,4 +1,4 @@
-use Rattle.pages.proofs.Laws.{no-copy-page-is, section-page-is}
+use Rattle.pages.proofs.Copied.{no-copy-page-is, section-page-is}
 use borrow.Author.Needs.{needs}
 use Rattle.pages.proofs.section_page.Statement.{statement}
 use Rattle.pages.proofs.section_page.Tie as tie

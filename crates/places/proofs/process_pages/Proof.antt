@@ -35,7 +35,7 @@ cast-pages : tie.Need-cast-pages Inv-loop μ-loop
 cast-pages c = search needs
 
 add-pages : tie.Need-add-pages Inv-loop μ-loop
-add-pages c = omega (arith, c .before .read-section .ensures .page-count-le)
+add-pages c = omega (arith, c .before .read-section .ensures .pages-few)
 
 add-j : tie.Need-add-j Inv-loop μ-loop
 add-j c = search needs
@@ -47,7 +47,7 @@ loop-again : tie.Need-loop-again Inv-loop μ-loop
 loop-again c =
     let loop = c .before .before .before in
     let read = c .before .read-section .ensures in
-    (omega arith, one-more _ _ _ (loop .loop .inv .1) (read .page-count) (loop .before .read-process .ensures .first-section), omega (arith, read .page-count-le))
+    (omega arith, one-more _ _ _ (loop .loop .inv .1) (read .pages-taken) (loop .before .read-process .ensures .first-section), omega (arith, read .pages-few))
 
 returns : tie.Need-returns Inv-loop μ-loop
 returns c = (all-pages _ _ _ (c .before .loop .inv .1) (omega (arith, c .before .before .read-process .ensures .sections-of)), omega arith)

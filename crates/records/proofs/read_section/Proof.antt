@@ -2,7 +2,7 @@ use mathlib.Core.Path.{_∙_}
 use native.Mathlib.Omega.{arith}
 use borrow.Author.Needs.{needs}
 use Rattle.rules.specs.Block.{address, size, flashOffset, flags}
-use Rattle.records.proofs.Laws.{section-is, first-word}
+use Rattle.records.proofs.Sections.{section-is, first-word}
 use Rattle.records.proofs.read_section.Statement.{statement}
 use Rattle.records.proofs.read_section.Tie as tie
 

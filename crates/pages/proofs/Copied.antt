@@ -1,4 +1,4 @@
--- Laws of the bytes of pages.
+-- A page cleared, and then copied into.
 use mathlib.Core.Path.{_≡_, sym, _∙_}
 use mathlib.Core.Bool.{true, false, _&&_}
 use mathlib.Core.List.{List}
@@ -15,6 +15,7 @@ use Rattle.notation.specs.Lists.{tab}
 use Rattle.laws.specs.Choice.{choose-yes, choose-no}
 use Rattle.laws.specs.Numbers.{leb-shift}
 use Rattle.laws.specs.Lists.{tab-length, tab-get, tab-by, tab-same}
+use Rattle.rules.specs.Lent.{imageOf}
 use Rattle.rules.specs.Block.{address, size, flashOffset}
 use Rattle.rules.specs.Contents.{sectionPageByte}
 use Rattle.records.specs.declared.Section.{Section}
@@ -65,7 +66,7 @@ page-byte l o s offset first k = elim (decLt (first + k) offset) [
 ]
 
 pub no-copy-page-is : (m : ℕ) {b p : List ℕ} {n : ℕ} {r : Section} (f : List ℕ) (i : ℕ) → IsSection b n r → r .«no_copy» ≡ true
-    → p ≡ cleared m → p ≡ tab m (sectionPageByte b f n i)
+    → p ≡ cleared m → p ≡ tab m (sectionPageByte (imageOf b f) n i)
 unfolding sectionPageByte
 no-copy-page-is m f i s c ep = ep ∙ tab-same m _ _ 0 (λ k h. sym (choose-yes _ _ (rw (s .no-copy) at c)))
 
@@ -76,7 +77,7 @@ pub section-page-is : (m : ℕ) {b p q t u : List ℕ} {n at skip : ℕ} {r : Se
     → u ≡ drop skip t
     → at ≡ r .address % 4096 - 4096 * i
     → q ≡ copied p at u
-    → q ≡ tab m (sectionPageByte b f n i)
+    → q ≡ tab m (sectionPageByte (imageOf b f) n i)
 unfolding sectionPageByte
 section-page-is m {b} {n = n} f i s c ep et es eu ea eq =
     eq ∙ rw (ep, eu, et, es, ea, s .address-is, s .size-is, s .flash-offset) (copied-cleared m _ _ ∙ tab-same m _ _ 0 (λ k h.
