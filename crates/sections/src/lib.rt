@@ -1,18 +1,17 @@
 // The pages of all sections, loaded into RAM from the top down. RAM may be any bytes: a page that it has not is left out.
 ghost use mathlib.Core.Path.{_≡_};
-ghost use Prim.Native.Nat.{_-_};
-ghost use lib.ListN.{length};
 ghost use Rattle.rules.specs.Contents.{sectionPageByte};
-ghost use Rattle.rules.specs.Order.{sectionUses};
+ghost use Rattle.rules.specs.Lent.{imageOf};
+ghost use Rattle.rules.specs.Order.{sectionPages, sectionUses, allSections};
 ghost use Rattle.writing.specs.Pages.{put};
-ghost use Rattle.writing.specs.Uses.{writeUses};
-ghost use Rattle.writing.specs.Loaded.{sectionPages, sectionContent, allSections};
+ghost use Rattle.writing.specs.Uses.{Wrote};
+ghost use Rattle.writing.specs.Loaded.{sectionContent};
 use ram_pages::PageAllocator;
 use types::RamPage;
 
 // Page i of section record n into RAM page k.
 fn load_page(ram: &mut [u8], k: RamPage, block: &[u8], flash: &[u8], n: usize, i: u32)
-    ensures { λ _. ⌜ now (ram .exit) ≡ put (now (ram .entry)) (k .0) (sectionPageByte (now (block .entry)) (now (flash .entry)) n i) ⌝ }
+    ensures { λ _. ⌜ now (ram .exit) ≡ put (now (ram .entry)) (k .0) (sectionPageByte (imageOf (now (block .entry)) (now (flash .entry))) n i) ⌝ }
 {
     let from = numbers::least(k.0 as usize * 4096, ram.len());
     let to = numbers::least(from + 4096, ram.len());
@@ -29,8 +28,8 @@ fn load_section(
     j: u32,
     from: PageAllocator,
 ) -> PageAllocator
-    ensures { λ r. ⌜ (r .left ≡ from .left - length (sectionPages (now (block .entry)) q j))
-        × (now (ram .exit) ≡ writeUses (sectionContent (now (block .entry)) (now (flash .entry))) (now (ram .entry)) (from .left) (sectionPages (now (block .entry)) q j)) ⌝ }
+    ensures { λ r. ⌜ Wrote (sectionContent (imageOf (now (block .entry)) (now (flash .entry)))) (sectionPages (now (block .entry)) q j)
+        (now (ram .entry)) (from .left) (now (ram .exit)) (r .left) ⌝ }
 {
     let process = records::read_process(block, q);
     let n = process.first_section as usize + j as usize;
@@ -55,8 +54,8 @@ fn load_process(
     q: u32,
     from: PageAllocator,
 ) -> PageAllocator
-    ensures { λ r. ⌜ (r .left ≡ from .left - length (sectionUses (now (block .entry)) q))
-        × (now (ram .exit) ≡ writeUses (sectionContent (now (block .entry)) (now (flash .entry))) (now (ram .entry)) (from .left) (sectionUses (now (block .entry)) q)) ⌝ }
+    ensures { λ r. ⌜ Wrote (sectionContent (imageOf (now (block .entry)) (now (flash .entry)))) (sectionUses (now (block .entry)) q)
+        (now (ram .entry)) (from .left) (now (ram .exit)) (r .left) ⌝ }
 {
     let process = records::read_process(block, q);
     let count = process.sections;
@@ -76,8 +75,8 @@ pub fn load_sections(
     flash: &[u8],
     from: PageAllocator,
 ) -> PageAllocator
-    ensures { λ r. ⌜ (r .left ≡ from .left - length (allSections (now (block .entry))))
-        × (now (ram .exit) ≡ writeUses (sectionContent (now (block .entry)) (now (flash .entry))) (now (ram .entry)) (from .left) (allSections (now (block .entry)))) ⌝ }
+    ensures { λ r. ⌜ Wrote (sectionContent (imageOf (now (block .entry)) (now (flash .entry)))) (allSections (now (block .entry)))
+        (now (ram .entry)) (from .left) (now (ram .exit)) (r .left) ⌝ }
 {
     let users = numbers::minus(counts::process_count(block) as usize, 1) as u32;
     let mut next = from;

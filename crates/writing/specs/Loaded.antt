@@ -10,7 +10,7 @@ use lib.ListN.{length, length-append}
 use Rattle.notation.specs.Lists.{tab, gather, lookup}
 use Rattle.rules.specs.Block.{sectionRecord}
 use Rattle.types.specs.declared.PageRange.{PageRange}
-use Rattle.rules.specs.Lent.{Image, Ram, ramArea, pagesIn}
+use Rattle.rules.specs.Lent.{Image, Ram, imageOf, ramArea, pagesIn}
 use Rattle.rules.specs.Space.{sectionPage}
 use Rattle.rules.specs.Order.{Use, top, holds, rootTable, leafTable, sectionPages, sectionUses, allSections, trackerUses, hasLeaf, tableUses, allTables, belowTop, order, uses, trackerPages, pagesNeeded, useOf}
 use Rattle.rules.specs.Contents.{sectionPageByte, dataByte}
@@ -19,7 +19,7 @@ use Rattle.laws.specs.Choice.{by-choose}
 use Rattle.laws.specs.Lists.{Every, every-at, every-append, every-tab, every-gather, tab-length, tab-by, lookup-right}
 use Rattle.placement.specs.Uses.{use-top}
 use Rattle.accepted.specs.Fits.{Whole}
-use Rattle.writing.specs.Uses.{writeUses, write-length, write-above, afterUse, write-byte, write-same}
+use Rattle.writing.specs.Uses.{writeUses, write-length, write-above, afterUse, write-byte, write-same, Wrote}
 
 -- byte o of the page of a use that is written
 unfoldable pub content : Image → PageRange → Use → ℕ → ℕ
@@ -104,8 +104,16 @@ same-bytes : (x : Image) (ram : PageRange) (q : ℕ) → Every (λ u. (o : ℕ) 
 unfolding sectionUses sectionPages sectionContent content pageByte dataByte
 same-bytes x ram q = every-gather _ _ _ (λ j _. every-tab _ _ _ (λ i _ o _. refl))
 
-pub write-sections : (x : Image) (ram : PageRange) (r : List ℕ) (n : ℕ)
-    → writeUses (sectionContent x) r n (allSections (x .block)) ≡ writeUses (content x ram) r n (allSections (x .block))
+pub wrote-sections : (x : Image) (ram : PageRange) {r₀ : List ℕ} {n₀ : ℕ} {r : List ℕ} {n : ℕ}
+    → Wrote (sectionContent x) (allSections (x .block)) r₀ n₀ r n → Wrote (content x ram) (allSections (x .block)) r₀ n₀ r n
 unfolding allSections
-write-sections x ram r n =
-    write-same _ _ r n _ (every-append _ (gather _ _) _ (every-gather _ _ _ (λ i _. same-bytes x ram (i + 2))) (same-bytes x ram 1))
+wrote-sections x ram {r₀} {n₀} w = record {
+  long = w .long;
+  left = w .left;
+  bytes = w .bytes
+      ∙ write-same _ _ r₀ n₀ _ (every-append _ (gather _ _) _ (every-gather _ _ _ (λ i _. same-bytes x ram (i + 2))) (same-bytes x ram 1));
+}
+
+-- the other uses, whatever flash holds
+abbrev pub WroteAny : List ℕ → PageRange → List Use → List ℕ → ℕ → List ℕ → ℕ → Type 0
+WroteAny b ram us r₀ n₀ r n = (flash : List ℕ) → Wrote (content (imageOf b flash) ram) us r₀ n₀ r n
