@@ -1,13 +1,13 @@
 -- What a loop that fills a table has done so far, and what it leaves at its end.
 use mathlib.Core.Path.{_≡_, refl, sym, _∙_}
-use mathlib.Core.Bool.{false, _&&_}
+use mathlib.Core.Bool.{Bool, true, false, _&&_}
 use mathlib.Core.List.{List}
 use Prim.Native.Nat.{ℕ, _+_, _-_, _%_, _≤_, _<_, min, max}
 use native.Mathlib.Decide.{decLt}
 use native.Mathlib.Omega.{arith}
 use lib.Dec.{leb, ltb}
 use lib.ListN.{length, getD, set, List·getD-eq-default}
-use borrow.Author.Tests.{le-ltb, le-leb, lt-leb}
+use borrow.Author.Tests.{lt-ltb, le-ltb, le-leb, lt-leb}
 use Rattle.notation.specs.Choice.{choose}
 use Rattle.notation.specs.Lists.{tab}
 use Rattle.laws.specs.Choice.{choose-no}
@@ -33,18 +33,26 @@ filling-more {i = i} p l e = record {
   done = written-more (p .done) (i + 1) refl e (p .from-start);
 }
 
--- the table's entries are those of the virtual pages from `base` on: the pages lo to hi are filled
-pub filling-is : {f : ℕ → ℕ} {a b i r : ℕ} {d₀ d : List ℕ} (base lo hi : ℕ) → Filling f a b i d₀ d
-    → b ≤ i
-    → a ≡ lo - base
-    → b ≡ min r (length d₀)
-    → r ≡ hi + 1 - base
-    → d ≡ tab (length d₀) (λ k. choose (leb lo (base + k) && leb (base + k) hi) (f k) (getD d₀ k 0))
-filling-is {a = a} {i = i} {d₀ = d₀} base lo hi p h ea eb er = let u = p .from-start in let v = p .to-end in chosen-is (p .done) (record {
-  hit = λ k m l n. rw (le-leb lo (base + k) (omega arith), le-leb (base + k) hi (omega arith));
-  low = λ k m l. rw (lt-leb lo (base + k) (omega arith));
-  high = λ k m l. rw (le-leb lo (base + k) (omega arith), lt-leb (base + k) hi (omega arith));
-})
+-- at the loop's end: the table's entries are those of the virtual pages from `base` on, and the pages from lo on are filled
+module _ {f : ℕ → ℕ} {a b i r : ℕ} {d₀ d : List ℕ} (base lo hi : ℕ) (p : Filling f a b i d₀ d) (h : b ≤ i) (ea : a ≡ lo - base) (eb : b ≡ min r (length d₀)) where
+  -- those below `end`, as a test tells
+  filling-below : (end : ℕ) (below : ℕ → Bool) → r ≡ end - base
+      → ((v : ℕ) → v < end → below v ≡ true)
+      → ((v : ℕ) → end ≤ v → below v ≡ false)
+      → d ≡ tab (length d₀) (λ k. choose (leb lo (base + k) && below (base + k)) (f k) (getD d₀ k 0))
+  filling-below end below er passes fails = let u = p .from-start in let v = p .to-end in chosen-is (p .done) (record {
+    hit = λ k m l n. rw (le-leb lo (base + k) (omega arith), passes (base + k) (omega arith));
+    low = λ k m l. rw (lt-leb lo (base + k) (omega arith));
+    high = λ k m l. rw (le-leb lo (base + k) (omega arith), fails (base + k) (omega arith));
+  })
+
+  -- up to hi, without it
+  pub filling-up-to : r ≡ hi - base → d ≡ tab (length d₀) (λ k. choose (leb lo (base + k) && ltb (base + k) hi) (f k) (getD d₀ k 0))
+  filling-up-to er = filling-below hi (λ v. ltb v hi) er (λ v. lt-ltb v hi) (λ v. le-ltb v hi)
+
+  -- hi too
+  pub filling-through : r ≡ hi + 1 - base → d ≡ tab (length d₀) (λ k. choose (leb lo (base + k) && leb (base + k) hi) (f k) (getD d₀ k 0))
+  filling-through er = filling-below (hi + 1) (λ v. leb v hi) er (λ v l. le-leb v hi (omega arith)) (λ v l. lt-leb v hi (omega arith))
 
 -- POINTING
 -- entry m of the root table, with its marked slots pointed to leaf tables

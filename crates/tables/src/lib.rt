@@ -6,10 +6,17 @@ ghost use lib.ListN.{set};
 ghost use Rattle.notation.specs.Choice.{choose};
 ghost use Rattle.rules.specs.Entries.{pointerEntry};
 ghost use Rattle.tables.specs.Filled.{pagesMapped, stackReserved, leavesPointed};
+use entries::RESERVED;
 use entries::page_entry;
 use entries::pointer_entry;
+use types::KERNEL_SLOT;
 use types::PhysPage;
+use types::Rights;
+use types::TABLE_ENTRIES;
 use types::VirtPage;
+
+// The virtual page where every stack ends.
+const STACK_END: usize = 0x8_0000;
 
 // Maps the virtual pages `from` to `to` that lie in the leaf table for root slot `slot`: `from` to physical page `first`,
 // each next one to the next lower page, or to page 0 once they run out.
@@ -19,34 +26,33 @@ pub fn map_pages(
     from: VirtPage,
     to: VirtPage,
     first: PhysPage,
-    write: bool,
-    execute: bool,
-    user: bool,
+    rights: Rights,
 )
-    ensures { λ _. ⌜ now (entries .exit) ≡ pagesMapped (now (entries .entry)) slot (from .0) (to .0) (first .0) write execute user ⌝ }
+    ensures { λ _. ⌜ now (entries .exit) ≡ pagesMapped (now (entries .entry)) slot (from .0) (to .0) (first .0) rights ⌝ }
 {
-    let base = 1024 * (slot as usize);
+    let base = (TABLE_ENTRIES as usize) * (slot as usize);
     let start = from.0 as usize;
     let past = numbers::minus(to.0 as usize + 1, base);
     let end = numbers::least(past, entries.len());
     let mut i = numbers::minus(start, base);
     while i < end {
         let page = numbers::minus(first.0 as usize, base + i - start) as u32;
-        entries[i] = page_entry(PhysPage(page), write, execute, user);
+        entries[i] = page_entry(PhysPage(page), rights);
         i += 1;
     }
 }
 
-// Reserves a user process's stack pages that lie in the leaf table for root slot `slot`: of tables of 1,024 entries slot
-// 511's has all four, the last of its entries, and no other has any.
-pub fn reserve_stack(entries: &mut [u32], slot: u32)
-    ensures { λ _. ⌜ now (entries .exit) ≡ stackReserved (now (entries .entry)) slot ⌝ }
+// Reserves a stack's pages that lie in the leaf table for root slot `slot`: the last `pages` virtual pages below 0x80000, all
+// of them where `pages` is more.
+pub fn reserve_stack(entries: &mut [u32], slot: u32, pages: u32)
+    ensures { λ _. ⌜ now (entries .exit) ≡ stackReserved (now (entries .entry)) slot pages ⌝ }
 {
-    let base = 1024 * (slot as usize);
-    let end = numbers::least(numbers::minus(0x8_0000, base), entries.len());
-    let mut i = numbers::minus(0x7_FFFC, base);
+    let base = (TABLE_ENTRIES as usize) * (slot as usize);
+    let first = numbers::minus(STACK_END, pages as usize);
+    let end = numbers::least(numbers::minus(STACK_END, base), entries.len());
+    let mut i = numbers::minus(first, base);
     while i < end {
-        entries[i] = 22;
+        entries[i] = RESERVED;
         i += 1;
     }
 }
@@ -80,7 +86,8 @@ pub fn point_to_leaves(entries: &mut [u32], marks: &[u8], first: PhysPage)
 pub fn point_to_kernel(entries: &mut [u32], leaf: PhysPage)
     ensures { λ _. ⌜ now (entries .exit) ≡ set (now (entries .entry)) 1023 (pointerEntry (leaf .0 % 0x40_0000)) ⌝ }
 {
-    if 1023 < entries.len() {
-        entries[1023] = pointer_entry(leaf);
+    let slot = KERNEL_SLOT as usize;
+    if slot < entries.len() {
+        entries[slot] = pointer_entry(leaf);
     }
 }

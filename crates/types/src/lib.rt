@@ -1,4 +1,13 @@
-// The types that the definitions, the promises and the code share.
+// The types that the definitions, the promises and the code share, and numbers of the format that the code names.
+
+// Bytes in a page.
+pub const PAGE_BYTES: u32 = 4096;
+
+// Entries in a page table.
+pub const TABLE_ENTRIES: u32 = 1024;
+
+// The root slot of the kernel's 4 MiB: a root table's last.
+pub const KERNEL_SLOT: u32 = 1023;
 
 // A RAM page number: RAM page k starts at RAM's start + 4,096 k.
 pub struct RamPage(pub u32);

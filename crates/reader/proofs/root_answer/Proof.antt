@@ -40,15 +40,15 @@ returns-2 c = search needs
 
 returns-3 : tie.Need-returns-3
 unfolding rootAnswer
-returns-3 c = c .leaf-answer .ensures ∙ ap leafAnswer (c .before .table-entry .ensures) ∙ sym (ap (rootAnswer _ _ _) (c .before .before .before .e .given .1))
+returns-3 c = c .leaf-answer .ensures ∙ ap leafAnswer (c .before .table-entry .ensures) ∙ sym (ap (rootAnswer _ _) (c .before .before .before .e .given .1))
 
 returns-4 : tie.Need-returns-4
 unfolding rootAnswer choose
-returns-4 c = c .page-answer .ensures ∙ sym (ap (rootAnswer _ _ _) (c .before .before .before .e2 .given .1) ∙ simp (eq-eqb _ _ (c .before .if1 .taken)))
+returns-4 c = c .page-answer .ensures ∙ sym (ap (rootAnswer _ _) (c .before .before .before .e2 .given .1) ∙ simp (eq-eqb _ _ (c .before .if1 .taken)))
 
 returns-5 : tie.Need-returns-5
 unfolding rootAnswer choose
-returns-5 c = sym (ap (rootAnswer _ _ _) (c .before .before .e2 .given .1) ∙ simp (ne-eqb _ _ (c .if1 .left)))
+returns-5 c = sym (ap (rootAnswer _ _) (c .before .before .e2 .given .1) ∙ simp (ne-eqb _ _ (c .if1 .left)))
 
 pub root-answer-spec : {M : Type 1} → statement M
 root-answer-spec =

@@ -1,6 +1,6 @@
 use Rattle.rules.specs.Reader.{rootAnswer}
 use mathlib.Core.Path.{sym, ap, _∙_}
-use Rattle.reader.proofs.Laws.{walk-page}
+use Rattle.reader.proofs.WalkCases.{walk-page}
 use native.Mathlib.Omega.{arith}
 use borrow.Author.Needs.{needs}
 use Rattle.reader.proofs.walk_page.Statement.{statement}
@@ -13,7 +13,7 @@ root-answer-requires : tie.Need-root-answer-requires
 root-answer-requires c κs = search needs
 
 returns : tie.Need-returns
-returns c = c .root-answer .ensures ∙ ap (rootAnswer _ _ _) (c .before .table-entry .ensures) ∙ sym (walk-page _ _ _ (c .before .before .before .before .args .page .0) _ (omega arith))
+returns c = c .root-answer .ensures ∙ ap (rootAnswer _ _) (c .before .table-entry .ensures) ∙ sym (walk-page _ _ (c .before .before .before .before .args .page .0) _ (omega arith))
 
 pub walk-page-spec : {M : Type 1} → statement M
 walk-page-spec = tie.close (tie.spec table-entry-requires root-answer-requires returns)

@@ -3,18 +3,21 @@ use Prim.Native.Nat.{_+_, _-_, _*_, _%_}
 use borrow.Author.Count.{falls}
 use Rattle.rules.specs.Entries.{pageEntry}
 use Rattle.tables.specs.Filled.{pagesMapped}
-use Rattle.tables.proofs.Filling.{Filling, filling-none, filling-more, filling-is}
+use Rattle.tables.proofs.Filling.{Filling, filling-none, filling-more, filling-through}
 use borrow.Author.Needs.{needs}
 use Rattle.tables.proofs.map_pages.Statement.{statement}
 use Rattle.tables.proofs.map_pages.Tie as tie
 
 -- so far the pages below index i are mapped
 abbrev Inv-loop : tie.InvT-loop
-Inv-loop entries₀ slot first write execute user base start past end i₀ entries i =
-    Filling (λ k. pageEntry ((first .0 - (1024 * slot + k - start)) % 0x40_0000) write execute user) i₀ end i entries₀ entries
+Inv-loop entries₀ slot first rights base start past end i₀ entries i =
+    Filling (λ k. pageEntry ((first .0 - (1024 * slot + k - start)) % 0x40_0000) rights) i₀ end i entries₀ entries
 
 abbrev μ-loop : tie.MeasureT-loop
-μ-loop entries₀ slot first write execute user base start past end i₀ entries i = end - i
+μ-loop entries₀ slot first rights base start past end i₀ entries i = end - i
+
+cast-base : tie.Need-cast-base Inv-loop μ-loop
+cast-base c = search needs
 
 mul-base : tie.Need-mul-base Inv-loop μ-loop
 mul-base c = search needs
@@ -81,7 +84,7 @@ returns : tie.Need-returns Inv-loop μ-loop
 unfolding pagesMapped
 returns c =
     let l = c .before in
-    filling-is _ _ _ (l .loop .inv) (c .loop-test .left) (l .before .minus2 .ensures) (l .before .before .least .ensures) (l .before .before .before .minus .ensures)
+    filling-through _ _ _ (l .loop .inv) (c .loop-test .left) (l .before .minus2 .ensures) (l .before .before .least .ensures) (l .before .before .before .minus .ensures)
 
 pub map-pages-spec : {M : Type 1} → statement M
 map-pages-spec =
@@ -89,6 +92,7 @@ map-pages-spec =
     (tie.spec
     Inv-loop
     μ-loop
+    cast-base
     mul-base
     cast-start
     cast-minus

@@ -4,8 +4,14 @@ use borrow.Author.Needs.{needs}
 use Rattle.tables.proofs.point_to_kernel.Statement.{statement}
 use Rattle.tables.proofs.point_to_kernel.Tie as tie
 
+cast-slot : tie.Need-cast-slot
+cast-slot c = search needs
+
 pointer-entry-requires : tie.Need-pointer-entry-requires
 pointer-entry-requires c κs = search needs
+
+mul-entries : tie.Need-mul-entries
+mul-entries c = search needs
 
 slice-write-entries : tie.Need-slice-write-entries
 slice-write-entries c = search needs
@@ -20,4 +26,13 @@ returns-2 : tie.Need-returns-2
 returns-2 c = sym (set-out _ _ _ (c .if1 .left))
 
 pub point-to-kernel-spec : {M : Type 1} → statement M
-point-to-kernel-spec = tie.close (tie.spec pointer-entry-requires slice-write-entries same-length returns returns-2)
+point-to-kernel-spec =
+    tie.close
+    (tie.spec
+    cast-slot
+    pointer-entry-requires
+    mul-entries
+    slice-write-entries
+    same-length
+    returns
+    returns-2)
