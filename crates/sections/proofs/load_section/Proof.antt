@@ -1,17 +1,16 @@
 use Prim.Native.Nat.{_-_, _≤_}
 use Rattle.notation.specs.Lists.{tab}
-use Rattle.rules.specs.Space.{sectionPage}
-use Rattle.rules.specs.Order.{holds}
-use Rattle.writing.specs.Uses.{Wrote}
+use Rattle.rules.specs.Lent.{imageOf}
+use Rattle.writing.specs.Uses.{Wrote, wrote-tab-none}
 use Rattle.writing.specs.Loaded.{sectionContent}
-use Rattle.sections.proofs.Laws.{tab-none, page-turn, section-end}
+use Rattle.sections.proofs.Turns.{pageUse, page-turn, section-end}
 use native.Mathlib.Omega.{arith}
 use borrow.Author.Needs.{needs}
 use Rattle.sections.proofs.load_section.Statement.{statement}
 use Rattle.sections.proofs.load_section.Tie as tie
 
 abbrev Inv-loop : tie.InvT-loop
-Inv-loop ram₀ block flash q j n count next₀ i₀ ram next i = (i ≤ count) × Wrote (sectionContent block flash) (tab i (λ i. holds (sectionPage q j i))) ram₀ (next₀ .left) ram (next .left)
+Inv-loop ram₀ block flash q j n count next₀ i₀ ram next i = (i ≤ count) × Wrote (sectionContent (imageOf block flash)) (tab i (pageUse q j)) ram₀ (next₀ .left) ram (next .left)
 
 abbrev μ-loop : tie.MeasureT-loop
 μ-loop ram₀ block flash q j n count next₀ i₀ ram next i = count - i
@@ -29,7 +28,7 @@ read-section-requires : tie.Need-read-section-requires Inv-loop μ-loop
 read-section-requires c κs = search needs
 
 loop-holds : tie.Need-loop-holds Inv-loop μ-loop
-loop-holds c = (search needs, tab-none _ _ _ _)
+loop-holds c = (search needs, wrote-tab-none _ _ _ _)
 
 allocate-requires : tie.Need-allocate-requires Inv-loop μ-loop
 allocate-requires c κs = search needs
@@ -47,14 +46,14 @@ loop-again : tie.Need-loop-again Inv-loop μ-loop
 loop-again c =
     let at-page = c .before .before .before in
     let loop = at-page .before .before .before .before in
-    (omega arith, page-turn _ _ _ _ _ _ (loop .loop .inv .1) (omega (arith, loop .before .before .before .read-process .ensures .first-section)) (at-page .before .before .allocate .ensures .1) (at-page .before .before .allocate .ensures .0) (at-page .load-page .ensures))
+    (omega arith, page-turn _ _ _ _ _ (loop .loop .inv .1) (omega (arith, loop .before .before .before .read-process .ensures .first-section)) (at-page .before .before .allocate .ensures .1) (at-page .before .before .allocate .ensures .0) (at-page .load-page .ensures))
 
 same-length : tie.Need-same-length Inv-loop μ-loop
 same-length c = search needs
 
 returns : tie.Need-returns Inv-loop μ-loop
 returns c =
-    section-end _ _ _ _ _ _ _ (c .before .loop .inv .1) (c .before .before .read-section .ensures .page-count)
+    section-end _ _ _ _ _ _ (c .before .loop .inv .1) (c .before .before .read-section .ensures .pages-taken)
     (omega (arith, c .before .before .before .before .read-process .ensures .first-section)) (omega arith)
 
 pub load-section-spec : {M : Type 1} → statement M
