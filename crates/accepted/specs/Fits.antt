@@ -1,17 +1,18 @@
 -- What the checks have shown before anything is written.
-use mathlib.Core.Path.{_≡_}
+use mathlib.Core.Path.{_≡_, sym, ap, _∙_}
 use mathlib.Core.List.{List}
 use Prim.Native.Nat.{ℕ, _+_, _*_, _/_, _%_, _≤_}
 use native.Mathlib.Omega.{arith}
 use borrow.Author.Tests.{eqb-true, ltb-false, not-false}
 use Rattle.types.specs.declared.Area.{Area}
 use Rattle.types.specs.declared.PageRange.{PageRange}
+use Rattle.types.specs.declared.Verdict.{Verdict}
 use Rattle.rules.specs.Lent.{Image, endOf, pagesIn}
 use Rattle.rules.specs.Block.{processCount}
 use Rattle.rules.specs.Order.{pagesNeeded}
-use Rattle.rules.specs.Refusals.{ramUnfit, outside, countsOutOfBounds, ramTooSmall}
+use Rattle.rules.specs.Refusals.{verdict, ramUnfit, outside, countsOutOfBounds, ramTooSmall}
 use Rattle.laws.specs.Choice.{any-none}
-use Rattle.accepted.specs.NoCause.{NoCause}
+use Rattle.accepted.specs.NoCause.{NoCause, no-cause}
 
 -- an area is whole pages
 pub record Whole (a : Area) : Type 0 where
@@ -45,3 +46,13 @@ module _ (x : Image) (ram : Area) (ok : NoCause x ram) where
         end = omega arith;
         enough = ltb-false _ _ (ok .room);
       }
+
+-- both, of RAM that lies here
+pub record Accepted (b : List ℕ) (ram : Area) : Type 0 where
+  pub whole-pages : Whole ram
+  pub room : Fits b (pagesIn ram)
+
+pub accepted : (x : Image) (ram : Area) (v : Verdict) → v ≡ verdict x ram → v .number ≡ 0 → Accepted (x .block) ram
+accepted x ram v e z =
+    let ok : NoCause x ram = no-cause x ram (ap (λ (v : Verdict). v .number) (sym e) ∙ z) in
+    record { whole-pages = whole x ram ok; room = fits x ram ok }

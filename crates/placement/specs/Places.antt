@@ -113,7 +113,7 @@ pub table-uses-length : (b : List ℕ) (q : ℕ) → length (tableUses b q) ≡ 
 unfolding tableUses tableCount
 table-uses-length b q = ap suc (leaves-length b q 1024)
 
-tables-length : (b : List ℕ) (n : ℕ) → length (gather n (λ i. tableUses b (i + 1))) ≡ tablesBefore b n
+pub tables-length : (b : List ℕ) (n : ℕ) → length (gather n (λ i. tableUses b (i + 1))) ≡ tablesBefore b n
 unfolding tablesBefore
 tables-length b n = gather-length _ _ ∙ sum-same _ _ _ (λ i _. table-uses-length b (i + 1))
 

@@ -1,6 +1,6 @@
 -- Writing the pages of all uses in order leaves RAM as the rules say.
 use mathlib.Core.Path.{_≡_, refl, _∙_}
-use mathlib.Core.List.{List, _∷_, _++_}
+use mathlib.Core.List.{List, [], _∷_, _++_}
 use mathlib.Core.Option.{Option, none, some}
 use mathlib.Core.Bool.{Bool, true, false}
 use Prim.Native.Nat.{ℕ, _+_, _-_, _*_, _/_, _≤_, _<_}
@@ -19,7 +19,7 @@ use Rattle.laws.specs.Choice.{by-choose}
 use Rattle.laws.specs.Lists.{Every, every-at, every-append, every-tab, every-gather, tab-length, tab-by, lookup-right}
 use Rattle.placement.specs.Uses.{use-top}
 use Rattle.accepted.specs.Fits.{Whole}
-use Rattle.writing.specs.Uses.{writeUses, write-length, write-above, afterUse, write-byte, write-same, Wrote}
+use Rattle.writing.specs.Uses.{writeUses, write-length, write-above, afterUse, write-byte, write-same, Wrote, wrote-none, wrote-then, wrote-tab-none, wrote-tab-next, wrote-gather-none, wrote-gather-next}
 
 -- byte o of the page of a use that is written
 unfoldable pub content : Image → PageRange → Use → ℕ → ℕ
@@ -114,6 +114,34 @@ wrote-sections x ram {r₀} {n₀} w = record {
       ∙ write-same _ _ r₀ n₀ _ (every-append _ (gather _ _) _ (every-gather _ _ _ (λ i _. same-bytes x ram (i + 2))) (same-bytes x ram 1));
 }
 
--- the other uses, whatever flash holds
-abbrev pub WroteAny : List ℕ → PageRange → List Use → List ℕ → ℕ → List ℕ → ℕ → Type 0
-WroteAny b ram us r₀ n₀ r n = (flash : List ℕ) → Wrote (content (imageOf b flash) ram) us r₀ n₀ r n
+-- THE OTHER USES, whatever flash holds
+pub record WroteAny (b : List ℕ) (ram : PageRange) (us : List Use) (r₀ : List ℕ) (n₀ : ℕ) (r : List ℕ) (n : ℕ) : Type 0 where
+  pub long : length r ≡ length r₀
+  pub left : n ≡ n₀ - length us
+  pub wrote : (flash : List ℕ) → Wrote (content (imageOf b flash) ram) us r₀ n₀ r n
+
+module _ {b : List ℕ} {ram : PageRange} where
+  pub wrote-any : {us : List Use} {r₀ : List ℕ} {n₀ : ℕ} {r : List ℕ} {n : ℕ} → ((flash : List ℕ) → Wrote (content (imageOf b flash) ram) us r₀ n₀ r n)
+      → WroteAny b ram us r₀ n₀ r n
+  wrote-any w = record { long = w [] .long; left = w [] .left; wrote = w }
+
+  pub any-none : (r : List ℕ) (n : ℕ) → WroteAny b ram [] r n r n
+  any-none r n = wrote-any (λ flash. wrote-none _ r n)
+
+  pub any-then : {us vs : List Use} {r₀ : List ℕ} {n₀ : ℕ} {r : List ℕ} {n : ℕ} {r′ : List ℕ} {n′ : ℕ}
+      → WroteAny b ram us r₀ n₀ r n → WroteAny b ram vs r n r′ n′ → WroteAny b ram (us ++ vs) r₀ n₀ r′ n′
+  any-then w v = wrote-any (λ flash. wrote-then (w .wrote flash) (v .wrote flash))
+
+  pub any-tab-none : (f : ℕ → Use) (r : List ℕ) (n : ℕ) → WroteAny b ram (tab 0 f) r n r n
+  any-tab-none f r n = wrote-any (λ flash. wrote-tab-none _ f r n)
+
+  pub any-tab-next : (f : ℕ → Use) (i : ℕ) {r₀ : List ℕ} {n₀ : ℕ} {r : List ℕ} {n : ℕ} {r′ : List ℕ} {n′ : ℕ}
+      → WroteAny b ram (tab i f) r₀ n₀ r n → WroteAny b ram (f i ∷ []) r n r′ n′ → WroteAny b ram (tab (i + 1) f) r₀ n₀ r′ n′
+  any-tab-next f i w v = wrote-any (λ flash. wrote-tab-next _ f i (w .wrote flash) (v .wrote flash))
+
+  pub any-gather-none : (f : ℕ → List Use) (r : List ℕ) (n : ℕ) → WroteAny b ram (gather 0 f) r n r n
+  any-gather-none f r n = wrote-any (λ flash. wrote-gather-none _ f r n)
+
+  pub any-gather-next : (f : ℕ → List Use) (i : ℕ) {r₀ : List ℕ} {n₀ : ℕ} {r : List ℕ} {n : ℕ} {r′ : List ℕ} {n′ : ℕ}
+      → WroteAny b ram (gather i f) r₀ n₀ r n → WroteAny b ram (f i) r n r′ n′ → WroteAny b ram (gather (i + 1) f) r₀ n₀ r′ n′
+  any-gather-next f i w v = wrote-any (λ flash. wrote-gather-next _ f i (w .wrote flash) (v .wrote flash))

@@ -1,4 +1,5 @@
-use Rattle.demands.specs.Boot.{accepted-fits}
+use Rattle.rules.specs.Lent.{imageOf, ramOf, areaOf}
+use Rattle.accepted.specs.Fits.{accepted}
 use Rattle.loader.proofs.Accepted.{tracker-few, free-le, refused-answer, boot-answer}
 use native.Mathlib.Omega.{arith}
 use borrow.Author.Needs.{needs}
