@@ -13,18 +13,20 @@ use borrow.Author.Tests.{eq-eqb, ne-eqb, eqb-true, eqb-false, le-leb}
 use Rattle.notation.specs.Choice.{choose}
 use Rattle.notation.specs.Lists.{tab, gather, count, sum}
 use Rattle.types.specs.declared.Answer.{Answer}
+use Rattle.types.specs.declared.Area.{Area}
+use Rattle.rules.specs.Lent.{Image, Ram, ramArea, pagesIn}
 use Rattle.rules.specs.Block.{processCount}
 use Rattle.rules.specs.Space.{trackerPage, processList, blockCopy}
 use Rattle.rules.specs.Order.{Use, top, holds, rootTable, sectionUses, hasLeaf, tableUses, order, uses, trackerPages, pagesNeeded, dataOwner, useOwner, pagesOf}
 use Rattle.rules.specs.Refusals.{verdict}
-use Rattle.rules.specs.Load.{physPage, answerTo, answer}
+use Rattle.rules.specs.Load.{physPage, bootAnswer, refusalAnswer, answerOn, answer}
 use Rattle.laws.specs.Choice.{by-choose, choose-yes, and-both}
 use Rattle.laws.specs.Lists.{Every, Absent, every-append, every-tab, every-gather}
 use Rattle.laws.specs.Counts.{one-yes, sum-same, sum-first, count-nil, count-cons, count-none}
 use Rattle.placement.specs.Places.{processPages, userPages, user-pages-none, user-pages-next, section-uses-length}
-use Rattle.demands.specs.NoCause.{no-cause}
-use Rattle.demands.specs.Boot.{boot}
-use Rattle.demands.specs.Counting.{owners-sum}
+use Rattle.accepted.specs.NoCause.{no-cause}
+use Rattle.accepted.specs.Fits.{fits}
+use Rattle.accepted.specs.Counting.{owners-sum}
 use Rattle.roots.specs.declared.Root.{Root}
 use Rattle.roots.specs.declared.Root.the-variants.{Nowhere, At}
 use Rattle.roots.specs.Roots.{isProcess, rootFound}
@@ -136,27 +138,27 @@ abbrev page-number : Root → ℕ
 page-number Nowhere = 0
 page-number (At P) = P .0
 
-pub root-is : (b : List ℕ) (flash start len q : ℕ) (root known : Root) → verdict b flash start len .number ≡ 0 → 1 ≤ q → q ≤ processCount b
-    → root ≡ rootFound b flash start len q → root ≡ known → page-number known ≡ physPage b (start / 4096) (len / 4096) (rootTable q)
+pub root-is : (x : Image) (ram : Area) (q : ℕ) (root known : Root) → verdict x ram .number ≡ 0 → 1 ≤ q → q ≤ processCount (x .block)
+    → root ≡ rootFound x ram q → root ≡ known → page-number known ≡ physPage (x .block) (pagesIn ram) (rootTable q)
 unfolding rootFound isProcess
-root-is b flash start len q root known z lo hi e k =
-    ap page-number (sym k ∙ e ∙ choose-yes _ _ (and-both (eq-eqb _ 0 z) (and-both (le-leb 1 q lo) (le-leb q (processCount b) hi))))
+root-is x ram q root known z lo hi e k =
+    ap page-number (sym k ∙ e ∙ choose-yes _ _ (and-both (eq-eqb _ 0 z) (and-both (le-leb 1 q lo) (le-leb q (processCount (x .block)) hi))))
 
 -- A BOOT
-booted : (b : List ℕ) (flash start len : ℕ) → answer b flash start len .number ≡ 0
-    → (verdict b flash start len .number ≡ 0) × (answer b flash start len .taken ≡ pagesNeeded b (len / 4096))
-unfolding answer answerTo
-booted b flash start len = by-choose
-    (λ (a : Answer). a .number ≡ 0 → (verdict b flash start len .number ≡ 0) × (a .taken ≡ pagesNeeded b (len / 4096)))
-    (eqb (verdict b flash start len .number) 0) _ _
+booted : (x : Image) (r : Ram) → answer x r .number ≡ 0
+    → (verdict x (ramArea r) .number ≡ 0) × (answer x r .taken ≡ pagesNeeded (x .block) (pagesIn (ramArea r) .pages))
+unfolding answer answerOn bootAnswer refusalAnswer
+booted x r = by-choose
+    (λ (a : Answer). a .number ≡ 0 → (verdict x (ramArea r) .number ≡ 0) × (a .taken ≡ pagesNeeded (x .block) (pagesIn (ramArea r) .pages)))
+    (eqb (verdict x (ramArea r) .number) 0) _ _
     (λ c _. (eqb-true _ 0 c, refl))
     (λ c z. absurd (eqb-false _ 0 c z))
 
 -- the verdict, and the kernel's pages as what the users leave of those taken
-pub booted-kernel : (b : List ℕ) (flash start len : ℕ) (a : Answer) {kernel : ℕ} → a ≡ answer b flash start len → a .number ≡ 0
-    → kernel ≡ a .taken - userPages b (processCount b - 1)
-    → (verdict b flash start len .number ≡ 0) × (kernel ≡ pagesOf b (len / 4096) 1)
-booted-kernel b flash start len a e z h =
-    let known = booted b flash start len (rw e at z) in
-    let some : 1 ≤ processCount b = boot b flash start len (no-cause b flash start len (known .0)) .processes in
-    (known .0, omega (arith, rw e at h, known .1, owners-add b (len / 4096) some))
+pub booted-kernel : (x : Image) (r : Ram) (a : Answer) {kernel : ℕ} → a ≡ answer x r → a .number ≡ 0
+    → kernel ≡ a .taken - userPages (x .block) (processCount (x .block) - 1)
+    → (verdict x (ramArea r) .number ≡ 0) × (kernel ≡ pagesOf (x .block) (pagesIn (ramArea r) .pages) 1)
+booted-kernel x r a e z h =
+    let known = booted x r (rw e at z) in
+    let some : 1 ≤ processCount (x .block) = fits x (ramArea r) (no-cause x (ramArea r) (known .0)) .some-process in
+    (known .0, omega (arith, rw e at h, known .1, owners-add (x .block) (pagesIn (ramArea r) .pages) some))

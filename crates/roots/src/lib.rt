@@ -1,6 +1,8 @@
 // Where a process's root table is, by the order of pages.
 ghost use mathlib.Core.Path.{_≡_};
+ghost use Rattle.rules.specs.Lent.{imageOf, areaOf};
 ghost use Rattle.roots.specs.Roots.{rootFound};
+use types::PageRange;
 use types::PhysPage;
 
 // Where the root table of a process is.
@@ -10,9 +12,9 @@ pub enum Root {
     At(PhysPage),
 }
 
-// The root table of process q, by the order of pages, for an image of `flash` bytes and RAM of `ram` bytes from `start` on.
-pub fn find_root(block: &[u8], flash: usize, start: u32, ram: usize, q: u32) -> Root
-    ensures { λ r. ⌜ r ≡ rootFound (now (block .entry)) flash start ram q ⌝ }
+// The root table of process q, by the order of pages, for RAM of `ram` bytes from `start` on.
+pub fn find_root(block: &[u8], flash: &[u8], start: u32, ram: usize, q: u32) -> Root
+    ensures { λ r. ⌜ r ≡ rootFound (imageOf (now (block .entry)) (now (flash .entry))) (areaOf start ram) q ⌝ }
 {
     let checked = checks::check(block, flash, start, ram);
     if checked.number != 0 {
@@ -24,7 +26,10 @@ pub fn find_root(block: &[u8], flash: usize, start: u32, ram: usize, q: u32) -> 
     if counts::process_count(block) < q {
         return Root::Nowhere;
     }
-    let pages = (ram / 4096) as u32;
-    let place = places::root_place(block, pages, q);
-    Root::At(ram_pages::page_at(start / 4096, pages, place))
+    let range = PageRange {
+        base: start / 4096,
+        pages: (ram / 4096) as u32,
+    };
+    let place = places::root_place(block, range.pages, q);
+    Root::At(ram_pages::page_at(range, place))
 }

@@ -19,7 +19,7 @@ same-length-2 c = search needs
 returns : tie.Need-returns
 returns c =
     let loaded = c .before .before .before .before .before .before .before .before in
-    (loaded .load .ensures .1, listed-refused _ _ _ _ _ (loaded .load .ensures .0) (c .before .before .before .before .if1 .taken) (c .before .before .refused-line .ensures))
+    (loaded .load .ensures .1, listed-refused _ _ _ (loaded .load .ensures .0) (c .before .before .before .before .if1 .taken) (c .before .before .refused-line .ensures))
 
 boot-line-requires : tie.Need-boot-line-requires
 boot-line-requires c κs = search needs
@@ -30,7 +30,7 @@ kernel-pages-requires c κs = search needs
 process-lines-requires : tie.Need-process-lines-requires
 process-lines-requires c κs =
     let tested = c .before .before .before .before .before .before in
-    booted-kernel _ _ _ _ _ (tested .before .before .before .before .load .ensures .0) (tested .if1 .left) (c .before .kernel-pages .ensures)
+    booted-kernel _ _ _ (tested .before .before .before .before .load .ensures .0) (tested .if1 .left) (c .before .kernel-pages .ensures)
 
 same-length-3 : tie.Need-same-length-3
 same-length-3 c = search needs
@@ -43,7 +43,7 @@ returns-2 c =
     let boot = c .before .before .before .before .before .before .before in
     let tested = boot .before .before in
     let loaded = tested .before .before .before .before in
-    (loaded .load .ensures .1, listed-booted _ _ _ _ _ (loaded .load .ensures .0) (tested .if1 .left) (boot .boot-line .ensures) (c .before .before .process-lines .ensures))
+    (loaded .load .ensures .1, listed-booted _ _ _ (loaded .load .ensures .0) (tested .if1 .left) (boot .boot-line .ensures) (c .before .before .process-lines .ensures))
 
 pub load-listing-spec : {M : Type 1} → statement M
 load-listing-spec =

@@ -1,5 +1,6 @@
 use mathlib.Core.Path.{_≡_}
-use Prim.Native.Nat.{_+_, _-_, _/_, _≤_}
+use Prim.Native.Nat.{_+_, _-_, _≤_}
+use Rattle.rules.specs.Lent.{areaOf, pagesIn}
 use Rattle.rules.specs.Block.{processCount}
 use Rattle.text.specs.Text.{Appended}
 use Rattle.report.specs.Listing.{processLines}
@@ -12,7 +13,7 @@ use Rattle.report.proofs.process_lines.Statement.{statement}
 use Rattle.report.proofs.process_lines.Tie as tie
 
 abbrev Inv-loop : tie.InvT-loop
-Inv-loop to₀ at block flash start ram kernel count end₀ i₀ to end i = (i ≤ count) × Appended to₀ at (processLines block (start / 4096) (ram / 4096) i) to end
+Inv-loop to₀ at block flash start ram kernel count end₀ i₀ to end i = (i ≤ count) × Appended to₀ at (processLines block (pagesIn (areaOf start ram)) i) to end
 
 abbrev μ-loop : tie.MeasureT-loop
 μ-loop to₀ at block flash start ram kernel count end₀ i₀ to end i = count - i
@@ -54,7 +55,7 @@ loop-again c =
     let start = counted .before .before .before in
     let more : turn .loop .i + 1 ≤ processCount (start .args .block .now) = omega (arith, root .before .before .loop-test .taken, counted .process-count .ensures) in
     let owned = pages-owned _ _ _ (start .pre .1) (omega arith) more (root .before .pages-of .ensures) in
-    (omega arith, lines-next _ _ _ _ (turn .loop .inv .1) owned (root .root-page .ensures) (c .before .before .process-line .ensures))
+    (omega arith, lines-next _ _ _ (turn .loop .inv .1) owned (root .root-page .ensures) (c .before .before .process-line .ensures))
 
 same-length : tie.Need-same-length Inv-loop μ-loop
 same-length c = appended-length (c .before .loop .inv .1)

@@ -1,4 +1,5 @@
-use Rattle.demands.specs.Boot.{accepted-fits}
+use Rattle.rules.specs.Lent.{imageOf, areaOf}
+use Rattle.accepted.specs.Fits.{accepted}
 use Rattle.roots.proofs.RootFound.{root-refused, root-below, root-above, root-at}
 use native.Mathlib.Omega.{arith}
 use borrow.Author.Needs.{needs}
