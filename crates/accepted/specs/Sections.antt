@@ -33,14 +33,17 @@ pub has-page-last : (b : List ℕ) (v n : ℕ) → hasPage b v n ≡ true → v 
 unfolding hasPage
 has-page-last b v n e = leb-true _ _ (and-right (leb (firstPage b n) v) _ e)
 
--- the sum of the counts of no process, and up to and with process q
-sections-before-none : (b : List ℕ) → sectionsBefore b 0 ≡ 0
+-- the sum of the counts of no process record, of one record more, and up to and with process q
+pub sections-before-none : (b : List ℕ) → sectionsBefore b 0 ≡ 0
 unfolding sectionsBefore
 sections-before-none b = sum-none _
 
-sections-before-next : (b : List ℕ) (q : ℕ) → 1 ≤ q → sectionsBefore b q ≡ sectionsBefore b (q - 1) + sectionsOf b q
+pub sections-before-next : (b : List ℕ) (n : ℕ) → sectionsBefore b (n + 1) ≡ sectionsBefore b n + sectionsOf b (n + 1)
 unfolding sectionsBefore
-sections-before-next b q lo = let e : q - 1 + 1 ≡ q = omega arith in rw e at (sum-next (q - 1) (λ i. sectionsOf b (i + 1)))
+sections-before-next b n = sum-next n _
+
+sections-up-to : (b : List ℕ) (q : ℕ) → 1 ≤ q → sectionsBefore b q ≡ sectionsBefore b (q - 1) + sectionsOf b q
+sections-up-to b q lo = let e : q - 1 + 1 ≡ q = omega arith in rw e at (sections-before-next b (q - 1))
 
 sections-before-le : (b : List ℕ) (i k : ℕ) → i ≤ k → sectionsBefore b i ≤ sectionsBefore b k
 unfolding sectionsBefore
@@ -75,7 +78,7 @@ module _ (x : Image) (ram : Area) (ok : NoCause x ram) where
     record-is = rw (first-is q lo hi)
 
     record-in : sectionRecord b q j < sectionCount b
-    record-in = omega (arith, record-is, sum-fits q lo hi, sections-before-next b q lo)
+    record-in = omega (arith, record-is, sum-fits q lo hi, sections-up-to b q lo)
 
     -- no other process has this record
     only-owner : (i : ℕ) → i < processCount b → hasSection b (sectionRecord b q j) i ≡ true → i + 1 ≡ q
@@ -85,11 +88,11 @@ module _ (x : Image) (ram : Area) (ok : NoCause x ram) where
         let to : sectionRecord b q j < firstSection b (i + 1) + sectionsOf b (i + 1)
         = ltb-true _ _ (and-right (leb (firstSection b (i + 1)) (sectionRecord b q j)) _ e) in
         let f : firstSection b (i + 1) ≡ sectionsBefore b (i + 1 - 1) = first-is (i + 1) (omega arith) (omega arith) in
-        let n : sectionsBefore b (i + 1) ≡ sectionsBefore b (i + 1 - 1) + sectionsOf b (i + 1) = sections-before-next b (i + 1) (omega arith) in
+        let n : sectionsBefore b (i + 1) ≡ sectionsBefore b (i + 1 - 1) + sectionsOf b (i + 1) = sections-up-to b (i + 1) (omega arith) in
         elim (decLt (i + 1) q) [
           | yes l ↦ absurd (omega (arith, record-is, sections-before-le b (i + 1) (q - 1) (omega arith)))
           | no l ↦ elim (decLt q (i + 1)) [
-            | yes g ↦ absurd (omega (arith, record-is, sections-before-next b q lo, sections-before-le b q (i + 1 - 1) (omega arith)))
+            | yes g ↦ absurd (omega (arith, record-is, sections-up-to b q lo, sections-before-le b q (i + 1 - 1) (omega arith)))
             | no g ↦ omega arith
           ]
         ]
@@ -166,7 +169,7 @@ module _ (x : Image) (ram : Area) (ok : NoCause x ram) where
       let hi : q ≤ processCount b = omega (arith, c .1) in
       let back : q - 1 ≡ c .0 = omega arith in
       let first : firstSection b q ≡ sectionsBefore b (c .0) = rw back at (first-is q lo hi) in
-      let next : sectionsBefore b q ≡ sectionsBefore b (c .0) + sectionsOf b q = rw back at (sections-before-next b q lo) in
+      let next : sectionsBefore b q ≡ sectionsBefore b (c .0) + sectionsOf b q = rw back at (sections-up-to b q lo) in
       let j : ℕ = n - firstSection b q in
       let has-j : j < sectionsOf b q = omega (arith, c .2, c .3) in
       let r : firstSection b q + j ≡ n = omega (arith, c .2) in
