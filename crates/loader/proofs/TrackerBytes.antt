@@ -1,6 +1,6 @@
 -- The tracker's bytes: the owner of each RAM page by its place in the order, and what the fills leave.
 use mathlib.Core.Path.{_≡_, refl, sym, ap, _∙_}
-use mathlib.Core.List.{List, [], _∷_, _++_, append-assoc}
+use mathlib.Core.List.{List, [], _∷_, _++_}
 use mathlib.Core.Option.{some}
 use Prim.Native.Nat.{ℕ, _+_, _-_, _*_, _≤_, _<_}
 use native.Mathlib.Numerals.{add-one}
@@ -10,16 +10,17 @@ use lib.ListN.{length, getD, length-append, List·getD-eq-default}
 use Rattle.notation.specs.Choice.{choose}
 use Rattle.notation.specs.Lists.{tab, gather, lookup}
 use Rattle.laws.specs.Choice.{by-choose}
-use Rattle.laws.specs.Lists.{Every, _and_, every-append, every-tab, every-gather, tab-length, tab-get, tab-by, tab-same, tab-next, append-get-right, lookup-some, lookup-left, lookup-right, lookup-outside, lookup-gather, every-at}
+use Rattle.laws.specs.Lists.{Every, every-tab, every-gather, tab-length, tab-get, tab-by, tab-same, tab-next, append-get-right, lookup-some, lookup-left, lookup-right, lookup-outside, lookup-gather, every-at}
 use Rattle.laws.specs.Counts.{sum-le}
 use Rattle.types.specs.declared.PageRange.{PageRange}
 use Rattle.rules.specs.Block.{processCount}
 use Rattle.rules.specs.Space.{trackerPage, processList, blockCopy}
-use Rattle.rules.specs.Order.{Use, top, holds, sectionPages, sectionUses, allSections, trackerUses, hasLeaf, tableUses, allTables, belowTop, order, uses, trackerPages, pagesNeeded, useOf, dataOwner, useOwner, owner}
+use Rattle.rules.specs.Order.{Use, top, holds, sectionPages, sectionUses, trackerUses, hasLeaf, tableUses, order, uses, trackerPages, pagesNeeded, useOf, dataOwner, useOwner, owner}
 use Rattle.rules.specs.Contents.{tracker, dataByte}
 use Rattle.rules.specs.Load.{pageByte}
 use Rattle.accepted.specs.Tracker.{tracker-byte, tracker-io}
 use Rattle.accepted.specs.Fits.{Fits}
+use Rattle.placement.specs.Uses.{afterUsers, order-users, every-after-users}
 use Rattle.placement.specs.Places.{processPages, userPages, sectionPlace, trackerPlace, section-uses-length, user-uses-length, user-pages-next, order-count}
 use Rattle.writing.specs.Pages.{put}
 use Rattle.writing.specs.Uses.{wrote-page}
@@ -60,20 +61,9 @@ module _ (b : List ℕ) where
   tables-owned q = (refl, every-gather _ 1024 _ (λ m _. by-choose (Owns 1) (hasLeaf b q m) _ _ (λ _. (refl, tt)) (λ _. tt)))
 
   module _ (T : ℕ) where
-    -- what follows the users' sections
-    abbrev afterUsers : List Use
-    afterUsers = sectionUses b 1 ++ (trackerUses T ++ (holds processList ∷ holds blockCopy ∷ allTables b))
-
-    after-owned : Owns 1 afterUsers
-    unfolding trackerUses allTables useOwner dataOwner
-    after-owned =
-        every-append _ (sectionUses b 1) _ (sections-owned 1)
-        (every-append _ (tab T _) _ (every-tab _ T _ (λ i _. refl)) (refl and refl and every-gather _ _ _ (λ i _. tables-owned (i + 1))))
-
-    -- the order, with the users' sections apart
-    order-users : order b T ≡ tab 4 top ++ (gather (processCount b - 1) (λ i. sectionUses b (i + 2)) ++ afterUsers)
-    unfolding order belowTop allSections
-    order-users = simp append-assoc
+    after-owned : Owns 1 (afterUsers b T)
+    unfolding useOwner dataOwner
+    after-owned = every-after-users (λ u. useOwner u ≡ 1) b T (sections-owned 1) (λ i. refl) refl refl tables-owned
 
     owned-top : (i : ℕ) → i < 4 → Owned (order b T) i 1
     unfolding order useOwner
@@ -82,17 +72,17 @@ module _ (b : List ℕ) where
     -- section page i of process t + 2
     owned-user : (t i : ℕ) → t < processCount b - 1 → i < processPages b (t + 2) → Owned (order b T) (4 + (userPages b t + i)) (t + 2)
     owned-user t i h l =
-        rw order-users (owned-right (tab 4 top) 4 _ (tab-length 4 top) refl
+        rw (order-users b T) (owned-right (tab 4 top) 4 _ (tab-length 4 top) refl
         (owned-left _ (rw (user-uses-length b t) at (owned-gather (processCount b - 1) (λ i. sectionUses b (i + 2)) t h
         (owned-all (sectionUses b (t + 2)) i (t + 2) (sections-owned (t + 2)) (rw section-uses-length l))))))
 
     owned-rest : (i : ℕ) → 4 + userPages b (processCount b - 1) ≤ i → i < length (order b T) → Owned (order b T) i 1
     owned-rest i h l =
         let u : ℕ = userPages b (processCount b - 1) in
-        let n : length (order b T) ≡ 4 + (u + length afterUsers) = rw order-users (simp (length-append, tab-length, user-uses-length)) in
-        rw order-users (owned-right (tab 4 top) {i = u + (i - (4 + u))} 4 _ (tab-length 4 top) (omega arith)
+        let n : length (order b T) ≡ 4 + (u + length (afterUsers b T)) = rw (order-users b T) (simp (length-append, tab-length, user-uses-length)) in
+        rw (order-users b T) (owned-right (tab 4 top) {i = u + (i - (4 + u))} 4 _ (tab-length 4 top) (omega arith)
         (owned-right (gather _ _) u _ (user-uses-length b _) refl
-        (owned-all afterUsers (i - (4 + u)) 1 after-owned (omega arith))))
+        (owned-all (afterUsers b T) (i - (4 + u)) 1 after-owned (omega arith))))
 
 -- BYTES
 -- byte k of the tracker for RAM of N pages

@@ -53,13 +53,7 @@ fn kernel_rights(write: bool) -> Rights
 }
 
 // Maps the sections of process q in the leaf table for root slot m, whose entries are all absent.
-fn map_sections(
-    entries: &mut [u32],
-    block: &[u8],
-    range: PageRange,
-    q: u32,
-    m: u32,
-)
+fn map_sections(entries: &mut [u32], block: &[u8], range: PageRange, q: u32, m: u32)
     requires { ⌜ Fits (now block) range × (1 ≤ q) × (q ≤ processCount (now block)) × (now entries ≡ tab 1024 (λ i. 0)) ⌝ }
     ensures { λ _. ⌜ now (entries .exit) ≡ entriesOf (physPage (now (block .entry)) range) (sectionAtPage (now (block .entry)) q) m ⌝ }
 {

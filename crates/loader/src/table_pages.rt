@@ -125,16 +125,7 @@ fn load_process_tables(
     // The page that the first leaf table gets.
     let leaf = root.rest.allocate();
     let first = physical(range, leaf.page);
-    load_root(
-        ram,
-        root.page,
-        block,
-        range,
-        q,
-        &marks,
-        first,
-        kernel_leaf,
-    );
+    load_root(ram, root.page, block, range, q, &marks, first, kernel_leaf);
     load_leaves(ram, block, range, q, &marks, root.rest)
 }
 

@@ -45,7 +45,14 @@ fn track_page(page: &mut [u8], block: &[u8], range: PageRange, needed: u32, i: u
 }
 
 // Page i of the tracker into RAM page k.
-fn load_tracker_page(ram: &mut [u8], k: RamPage, block: &[u8], range: PageRange, needed: u32, i: u32)
+fn load_tracker_page(
+    ram: &mut [u8],
+    k: RamPage,
+    block: &[u8],
+    range: PageRange,
+    needed: u32,
+    i: u32,
+)
     requires { ⌜ Fits (now block) range × (needed ≡ pagesNeeded (now block) (range .pages)) ⌝ }
     ensures { λ _. ⌜ now (ram .exit) ≡ put (now (ram .entry)) (k .0) (λ o. getD (tracker (now (block .entry)) (range .pages)) (4096 * i + o) 0) ⌝ }
 {

@@ -1,6 +1,6 @@
 -- Each use that the rules name is in the order of pages, and stands in RAM where the order puts it.
 use mathlib.Core.Path.{_≡_, refl, sym, ap, _∙_}
-use mathlib.Core.List.{List, _∷_, _++_}
+use mathlib.Core.List.{List, _∷_, _++_, append-assoc}
 use mathlib.Core.Option.{none, some}
 use mathlib.Core.Bool.{Bool, true, false}
 use Prim.Native.Nat.{ℕ, _+_, _-_, _≤_, _<_}
@@ -13,7 +13,7 @@ use Rattle.rules.specs.Block.{processCount, sectionsOf, sectionRecord}
 use Rattle.rules.specs.Space.{Data-discrete, sectionPage, trackerPage, processList, blockCopy}
 use Rattle.rules.specs.Order.{Use, Use-discrete, top, holds, rootTable, leafTable, pagesTaken, sectionPages, sectionUses, allSections, trackerUses, hasLeaf, tableUses, allTables, belowTop, order, uses, pagesNeeded, freePages, useOf, sameUse, ramPage}
 use Rattle.laws.specs.Choice.{by-test}
-use Rattle.laws.specs.Lists.{Occurs, occurs-here, occurs-there, occurs-left, occurs-right, occurs-tab, occurs-gather, First, count-before-finds, lookup-inside, lookup-outside, lookup-left, lookup-tab}
+use Rattle.laws.specs.Lists.{Every, _and_, every-append, every-tab, every-gather, Occurs, occurs-here, occurs-there, occurs-left, occurs-right, occurs-tab, occurs-gather, First, count-before-finds, lookup-inside, lookup-outside, lookup-left, lookup-tab}
 
 -- IN THE ORDER
 module _ (b : List ℕ) (T : ℕ) where
@@ -65,6 +65,22 @@ module _ (b : List ℕ) (T : ℕ) where
   pub order-leaf : (q m : ℕ) → 1 ≤ q → q ≤ processCount b → m < 1024 → hasLeaf b q m ≡ true → Occurs (order b T) (leafTable q m)
   unfolding tableUses choose
   order-leaf q m lo hi h e = order-table q _ lo hi (occurs-there _ _ (occurs-gather 1024 _ m h (rw e (occurs-here _ _))))
+
+-- THE ORDER WITH THE USERS' SECTIONS APART
+abbrev pub afterUsers : List ℕ → ℕ → List Use
+afterUsers b T = sectionUses b 1 ++ (trackerUses T ++ (holds processList ∷ holds blockCopy ∷ allTables b))
+
+pub order-users : (b : List ℕ) (T : ℕ) → order b T ≡ tab 4 top ++ (gather (processCount b - 1) (λ i. sectionUses b (i + 2)) ++ afterUsers b T)
+unfolding order belowTop allSections
+order-users b T = simp append-assoc
+
+-- what is so of each part is so of all that follows the users' sections
+pub every-after-users : (P : Use → Type 0) (b : List ℕ) (T : ℕ) → Every P (sectionUses b 1) → ((i : ℕ) → P (holds (trackerPage i)))
+    → P (holds processList) → P (holds blockCopy) → ((q : ℕ) → Every P (tableUses b q)) → Every P (afterUsers b T)
+unfolding trackerUses allTables
+every-after-users P b T kernel tracker list copy tables =
+    every-append P (sectionUses b 1) _ kernel (every-append P (tab T _) _ (every-tab P T _ (λ i _. tracker i))
+    (list and copy and every-gather P (processCount b) _ (λ i _. tables (i + 1))))
 
 -- IN RAM
 pub same-use-refl : (u : Use) → sameUse u u ≡ true

@@ -36,12 +36,12 @@ unfolding processLines
 lines-next b ram i p e h q = rw gather-next (appended-then p (rw (e, h) at q))
 
 -- LISTING
-module _ (x : Image) (r : Ram) (a : Answer) (e : a ≡ answer x r) {xs ys zs : List ℕ} {i j : ℕ} where
-  pub listed-refused : a .number ≢ 0 → Appended xs 0 (refusedLine (a .number) (a .place)) ys j → Appended xs 0 (listing x r) ys j
+module _ (x : Image) (r : Ram) (a : Answer) (e : a ≡ answer x r) where
+  pub listed-refused : {xs ys : List ℕ} {j : ℕ} → a .number ≢ 0 → Appended xs 0 (refusedLine (a .number) (a .place)) ys j → Appended xs 0 (listing x r) ys j
   unfolding listing
   listed-refused n p = rw (← e) (rw (choose-no _ _ (ne-eqb _ _ n)) p)
 
-  pub listed-booted : a .number ≡ 0 → Appended xs 0 (bootLine (pagesIn (ramArea r) .pages) (a .free)) ys i
+  pub listed-booted : {xs ys zs : List ℕ} {i j : ℕ} → a .number ≡ 0 → Appended xs 0 (bootLine (pagesIn (ramArea r) .pages) (a .free)) ys i
       → Appended ys i (processLines (x .block) (pagesIn (ramArea r)) (processCount (x .block))) zs j → Appended xs 0 (listing x r) zs j
   unfolding listing
   listed-booted z p q = rw (← e) (rw (choose-yes _ _ (eq-eqb _ _ z)) (appended-then p q))

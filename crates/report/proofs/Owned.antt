@@ -16,13 +16,13 @@ use Rattle.types.specs.declared.Answer.{Answer}
 use Rattle.types.specs.declared.Area.{Area}
 use Rattle.rules.specs.Lent.{Image, Ram, ramArea, pagesIn}
 use Rattle.rules.specs.Block.{processCount}
-use Rattle.rules.specs.Space.{trackerPage, processList, blockCopy}
-use Rattle.rules.specs.Order.{Use, top, holds, rootTable, sectionUses, hasLeaf, tableUses, order, uses, trackerPages, pagesNeeded, dataOwner, useOwner, pagesOf}
+use Rattle.rules.specs.Order.{Use, top, rootTable, sectionPages, sectionUses, hasLeaf, tableUses, order, uses, trackerPages, pagesNeeded, dataOwner, useOwner, pagesOf}
 use Rattle.rules.specs.Refusals.{verdict}
 use Rattle.rules.specs.Load.{physPage, bootAnswer, refusalAnswer, answerOn, answer}
 use Rattle.laws.specs.Choice.{by-choose, choose-yes, and-both}
-use Rattle.laws.specs.Lists.{Every, Absent, every-append, every-tab, every-gather}
+use Rattle.laws.specs.Lists.{Every, Absent, every-tab, every-gather}
 use Rattle.laws.specs.Counts.{one-yes, sum-same, sum-first, count-nil, count-cons, count-none}
+use Rattle.placement.specs.Uses.{afterUsers, order-users, every-after-users}
 use Rattle.placement.specs.Places.{processPages, userPages, user-pages-none, user-pages-next, section-uses-length}
 use Rattle.accepted.specs.NoCause.{no-cause}
 use Rattle.accepted.specs.Fits.{fits}
@@ -58,11 +58,11 @@ module _ (b : List ℕ) (q : ℕ) (n : q ≢ 1) where
   owned u = eqb (useOwner u) q
 
   sections-owned : Every (λ u. owned u ≡ true) (sectionUses b q)
-  unfolding sectionUses useOwner dataOwner
+  unfolding sectionUses sectionPages useOwner dataOwner
   sections-owned = every-gather _ _ _ (λ j _. every-tab _ _ _ (λ i _. eq-eqb q q refl))
 
   sections-other : (m : ℕ) → m ≢ q → Absent owned (sectionUses b m)
-  unfolding sectionUses useOwner dataOwner
+  unfolding sectionUses sectionPages useOwner dataOwner
   sections-other m h = every-gather _ _ _ (λ j _. every-tab _ _ _ (λ i _. ne-eqb m q h))
 
   not-kernel : eqb 1 q ≡ false
@@ -72,33 +72,27 @@ module _ (b : List ℕ) (q : ℕ) (n : q ≢ 1) where
   unfolding tableUses useOwner
   tables-other m = (not-kernel, every-gather _ 1024 _ (λ k _. by-choose (Absent owned) (hasLeaf b m k) _ _ (λ _. (not-kernel, tt)) (λ _. tt)))
 
-  -- what follows the users' sections
-  abbrev after : ℕ → List Use
-  after T = sectionUses b 1 ++ (tab T (λ i. holds (trackerPage i)) ++ (holds processList ∷ holds blockCopy ∷ gather (processCount b) (λ i. tableUses b (i + 1))))
-
-  after-other : (T : ℕ) → Absent owned (after T)
+  after-other : (T : ℕ) → Absent owned (afterUsers b T)
   unfolding useOwner dataOwner
-  after-other T =
-      every-append _ (sectionUses b 1) _ (sections-other 1 (λ e. n (sym e)))
-      (every-append _ (tab T _) _ (every-tab _ T _ (λ i _. not-kernel)) (not-kernel, (not-kernel, every-gather _ (processCount b) _ (λ i _. tables-other (i + 1)))))
+  after-other T = every-after-users (λ u. owned u ≡ false) b T (sections-other 1 (λ e. n (sym e))) (λ i. not-kernel) not-kernel not-kernel tables-other
 
   order-owned : (T : ℕ) → 2 ≤ q → q ≤ processCount b → count owned (order b T) ≡ processPages b q
-  unfolding order useOwner dataOwner
+  unfolding useOwner dataOwner
   order-owned T lo hi =
       let users : ℕ → List Use = λ i. sectionUses b (i + 2) in
       let s : q - 2 + 2 ≡ q = omega arith in
       let g : count owned (gather (processCount b - 1) users) ≡ count owned (sectionUses b q)
       = count-gather owned (processCount b - 1) users (q - 2) (omega arith) (λ m h. sections-other (m + 2) (λ e. h (omega arith))) ∙ rw s in
-      count-append owned (tab 4 top) _
+      rw (order-users b T) (count-append owned (tab 4 top) _
       ∙ omega (
         arith,
         count-none owned (tab 4 top) (every-tab _ 4 top (λ i _. not-kernel)),
-        count-append owned (gather (processCount b - 1) users) (after T),
+        count-append owned (gather (processCount b - 1) users) (afterUsers b T),
         g,
         count-all owned (sectionUses b q) sections-owned,
         section-uses-length b q,
-        count-none owned (after T) (after-other T),
-      )
+        count-none owned (afterUsers b T) (after-other T),
+      ))
 
 pub user-owned : (b : List ℕ) (N q : ℕ) → 2 ≤ q → q ≤ processCount b → pagesOf b N q ≡ processPages b q
 unfolding pagesOf uses

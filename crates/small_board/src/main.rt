@@ -6,6 +6,7 @@ use small::START;
 use std::num::wrapping_add_u32;
 use std::num::wrapping_sub_u32;
 use types::Entry;
+use types::PageRange;
 use types::PhysPage;
 use types::RamPage;
 
@@ -38,6 +39,14 @@ fn print_word(w: u32) {
         digit(w),
     ];
     print(&text);
+}
+
+// The board's RAM.
+fn board() -> PageRange {
+    PageRange {
+        base: START / 4096,
+        pages: 16,
+    }
 }
 
 // The RAM page at a physical page.
@@ -111,7 +120,7 @@ fn print_uses(ram: &[u8], root: PhysPage) {
 
 fn print_if_free(tracker: &[u8], k: u32) {
     if slices::byte(tracker, k as usize) == 0 {
-        print_use(physical(START / 4096, RamPage(k)), b"free");
+        print_use(physical(board(), RamPage(k)), b"free");
     }
 }
 
@@ -167,7 +176,7 @@ fn main() {
     // The tables of the last process are the lowest pages taken, its root the highest of them.
     let tables = leaves::table_count(&block, 2);
     let highest = wrapping_add_u32(answer.free, wrapping_sub_u32(tables, 1));
-    let root = physical(START / 4096, RamPage(highest));
+    let root = physical(board(), RamPage(highest));
     print_uses(&ram, root);
     print_free(&ram, root);
     print_tables(&ram, root);

@@ -44,6 +44,10 @@ module _ (x : Image) (r : Ram) where
   answer-number = by-choose (λ (a : Answer). a .number ≡ verdict x (ramArea r) .number) (eqb (verdict x (ramArea r) .number) 0) _ _
       (λ e. sym (eqb-true (verdict x (ramArea r) .number) 0 e)) (λ _. refl)
 
+  boots-number : boots x r ≡ true → verdict x (ramArea r) .number ≡ 0
+  unfolding boots
+  boots-number e = eqb-true _ 0 e
+
   module _ (full : Answer) (ea : full ≡ answer x r) where
     number-of : full .number ≡ verdict x (ramArea r) .number
     number-of = ap (λ (a : Answer). a .number) ea ∙ answer-number
@@ -85,7 +89,7 @@ two-boards x r r′ exit exit′ q a one two h o t = record {
       let n : two .answer .number ≡ verdict x (ramArea r′) .number = number-of x r′ (two .answer) (t .answers) in
       let e′ : boots x r′ ≡ true = boots-on-larger-ram x r r′ e l (λ y. no-1 (n ∙ y)) (λ y. no-11 (n ∙ y)) in
       let s : SameOnBoth x r r′ = same-on-both x r r′ e e′ l in (
-        n ∙ eqb-true _ 0 (unfold boots in e′),
+        n ∙ boots-number x r′ e′,
         (λ lo hi. rw (o .shows, t .shows, e, e′, is-process (x .block) q lo hi) (s .views q a lo hi h)),
         rw (o .answers, t .answers) (s .pages),
       );

@@ -36,7 +36,7 @@ pages-of-requires c κs = search needs
 root-page-requires : tie.Need-root-page-requires Inv-loop μ-loop
 root-page-requires c κs =
     let counted = c .before .before .before .before in
-    (counted .before .before .before .pre .0, omega arith, omega (arith, c .before .loop-test .taken, counted .process-count .ensures))
+    (counted .before .before .before .before .pre .0, omega arith, omega (arith, c .before .loop-test .taken, counted .process-count .ensures))
 
 process-line-requires : tie.Need-process-line-requires Inv-loop μ-loop
 process-line-requires c κs = search needs
@@ -52,7 +52,7 @@ loop-again c =
     let root = c .before .before .before .before in
     let turn = root .before .before .before in
     let counted = turn .before .before in
-    let start = counted .before .before .before in
+    let start = counted .before .before .before .before in
     let more : turn .loop .i + 1 ≤ processCount (start .args .block .now) = omega (arith, root .before .before .loop-test .taken, counted .process-count .ensures) in
     let owned = pages-owned _ _ _ (start .pre .1) (omega arith) more (root .before .pages-of .ensures) in
     (omega arith, lines-next _ _ _ (turn .loop .inv .1) owned (root .root-page .ensures) (c .before .before .process-line .ensures))
@@ -63,7 +63,7 @@ same-length c = appended-length (c .before .loop .inv .1)
 returns : tie.Need-returns Inv-loop μ-loop
 returns c =
     let counted = c .before .before .before in
-    let all : c .before .loop .i ≡ processCount (counted .before .before .before .args .block .now) = omega (arith, counted .process-count .ensures) in
+    let all : c .before .loop .i ≡ processCount (counted .before .before .before .before .args .block .now) = omega (arith, counted .process-count .ensures) in
     rw all at (c .before .loop .inv .1)
 
 pub process-lines-spec : {M : Type 1} → statement M

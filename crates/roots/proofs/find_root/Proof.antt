@@ -1,4 +1,4 @@
-use Rattle.rules.specs.Lent.{imageOf, areaOf}
+use Rattle.rules.specs.Lent.{imageOf}
 use Rattle.accepted.specs.Fits.{accepted}
 use Rattle.roots.proofs.RootFound.{root-refused, root-below, root-above, root-at}
 use native.Mathlib.Omega.{arith}
@@ -10,21 +10,21 @@ check-requires : tie.Need-check-requires
 check-requires c κs = search needs
 
 returns : tie.Need-returns
-returns c = root-refused _ _ _ _ _ _ (c .before .before .check .ensures) (c .if1 .taken)
+returns c = root-refused (imageOf _ (c .before .before .before .before .before .args .flash .now)) _ _ _ (c .before .before .check .ensures) (c .if1 .taken)
 
 returns-2 : tie.Need-returns-2
-returns-2 c = root-below _ _ _ _ _ (c .if2 .taken)
+returns-2 c = root-below (imageOf _ (c .before .before .before .before .before .before .args .flash .now)) _ _ (c .if2 .taken)
 
 process-count-requires : tie.Need-process-count-requires
 process-count-requires c κs = search needs
 
 returns-3 : tie.Need-returns-3
-returns-3 c = root-above _ _ _ _ _ _ (c .before .process-count .ensures) (c .if3 .taken)
+returns-3 c = root-above (imageOf _ (c .before .before .before .before .before .before .before .before .args .flash .now)) _ _ _ (c .before .process-count .ensures) (c .if3 .taken)
 
-cast-pages : tie.Need-cast-pages
-cast-pages c =
+cast-t12 : tie.Need-cast-t12
+cast-t12 c =
     let checked = c .before .before .before .before .before in
-    omega (arith, accepted-fits _ _ _ _ _ (checked .check .ensures) (c .before .before .before .if1 .left) .0 .few-pages)
+    omega (arith, accepted _ _ _ (checked .check .ensures) (c .before .before .before .if1 .left) .room .few-pages)
 
 root-place-requires : tie.Need-root-place-requires
 root-place-requires c κs = search needs
@@ -36,7 +36,7 @@ returns-4 : tie.Need-returns-4
 returns-4 c =
     let counted = c .before .before in
     let checked = counted .before .before .before .before .before in
-    root-at _ _ _ _ _ _ _ _ (checked .check .ensures) (counted .before .before .before .if1 .left) (counted .before .before .if2 .left)
+    root-at _ _ _ _ _ _ (checked .check .ensures) (counted .before .before .before .if1 .left) (counted .before .before .if2 .left)
     (omega (arith, counted .if3 .left, counted .before .process-count .ensures)) (c .before .root-place .ensures) (c .page-at .ensures)
 
 pub find-root-spec : {M : Type 1} → statement M
@@ -48,7 +48,7 @@ find-root-spec =
     returns-2
     process-count-requires
     returns-3
-    cast-pages
+    cast-t12
     root-place-requires
     page-at-requires
     returns-4)
