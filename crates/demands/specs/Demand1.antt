@@ -1,10 +1,12 @@
 -- DEMAND 1: "Whatever bytes arrive as block, flash and RAM, the loader ends with success or with one refusal of document 01, exactly
 -- when 01 says. A refusal returns number, place and zero counts and leaves RAM untouched."
-use mathlib.Core.Path.{_≡_}
+use mathlib.Core.Path.{_≡_, refl}
 use mathlib.Core.Logic.{_≢_, _↔_}
 use Prim.Native.Nat.{ℕ, _≤_}
 use borrow.Author.Tests.{ne-eqb}
 use Rattle.types.specs.declared.Area.{Area}
+use Rattle.types.specs.declared.Verdict.{Verdict}
+use Rattle.types.specs.declared.Answer.{Answer}
 use Rattle.rules.specs.Lent.{Image, Ram, ramArea}
 use Rattle.rules.specs.Refusals.{checks, verdict}
 use Rattle.rules.specs.Load.{boots, refusalAnswer, answerOn, answer, ramAfter}
@@ -22,9 +24,18 @@ pub refusal-is-first-cause : (x : Image) (ram : Area) → verdict x ram .number 
 refusal-is-first-cause x ram = verdict-refuses x ram
 
 -- a refusal's answer has its number, its place and three zero counts
-pub refusal-answer : (x : Image) (r : Ram) → verdict x (ramArea r) .number ≢ 0 → answer x r ≡ refusalAnswer (verdict x (ramArea r))
-unfolding answer answerOn
-refusal-answer x r h = choose-no _ _ (ne-eqb _ 0 h)
+pub record ZeroCounts (v : Verdict) (a : Answer) : Type 0 where
+  pub number : a .number ≡ v .number
+  pub place : a .place ≡ v .place
+  pub taken : a .taken ≡ 0
+  pub free : a .free ≡ 0
+  pub tracker : a .tracker ≡ 0
+
+pub refusal-answer : (x : Image) (r : Ram) → verdict x (ramArea r) .number ≢ 0 → ZeroCounts (verdict x (ramArea r)) (answer x r)
+unfolding answer answerOn refusalAnswer
+refusal-answer x r h =
+    let e : answer x r ≡ refusalAnswer (verdict x (ramArea r)) = choose-no _ _ (ne-eqb _ 0 h) in
+    rw e (record { number = refl; place = refl; taken = refl; free = refl; tracker = refl })
 
 -- RAM after a refusal is RAM before
 pub refusal-leaves-ram : (x : Image) (r : Ram) → verdict x (ramArea r) .number ≢ 0 → ramAfter x r ≡ r .bytes

@@ -84,7 +84,7 @@ unfoldable pub hasSection : List ℕ → ℕ → ℕ → Bool
 hasSection b n i = leb (firstSection b (i + 1)) n && ltb n (firstSection b (i + 1) + sectionsOf b (i + 1))
 
 -- the process that owns section record n, 0 where none does: where 6 is not given, each n below s has one owner (`section-owner` in
--- demands/Sections)
+-- accepted/Sections)
 unfoldable pub ownerOf : List ℕ → ℕ → ℕ
 ownerOf b n = elim (findLast (hasSection b n) (processCount b)) [ none ↦ 0 | some i ↦ i + 1 ]
 
