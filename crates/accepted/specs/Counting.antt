@@ -15,7 +15,7 @@ use Rattle.rules.specs.Contents.{tracker}
 use Rattle.laws.specs.Choice.{by-choose, choose-yes, choose-no}
 use Rattle.laws.specs.Lists.{Every, _and_, every-map, every-append, every-tab, every-gather, tab-length}
 use Rattle.laws.specs.Counts.{one, sum-reverse, count-none, count-tab, count-classes, count-lookups}
-use Rattle.placement.specs.Places.{tracker-uses-length}
+use Rattle.order_laws.specs.Places.{tracker-uses-length}
 use Rattle.accepted.specs.Tracker.{tracker-ram}
 
 -- HOW MANY: the tracker's pages and the rest, which depends on the block alone

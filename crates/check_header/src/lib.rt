@@ -63,9 +63,9 @@ pub fn counts_out_of_bounds(block: &[u8]) -> bool
     ensures { λ r. ⌜ r ≡ countsOutOfBounds (now (block .entry)) ⌝ }
 {
     are_outside(
-        counts::process_count(block),
-        counts::section_count(block),
-        counts::region_count(block),
+        block_header::process_count(block),
+        block_header::section_count(block),
+        block_header::region_count(block),
     )
 }
 
@@ -73,9 +73,9 @@ pub fn counts_out_of_bounds(block: &[u8]) -> bool
 pub fn layout_not_tight(block: &[u8]) -> bool
     ensures { λ r. ⌜ r ≡ layoutNotTight (now (block .entry)) ⌝ }
 {
-    let sections_at = counts::sections_at(block);
-    let regions_at = counts::regions_at(block);
-    let length = counts::tight_length(block);
+    let sections_at = block_header::sections_at(block);
+    let regions_at = block_header::regions_at(block);
+    let length = block_header::tight_length(block);
     let process_offset = slices::word(block, 12);
     let section_offset = slices::word(block, 20) as usize;
     let region_offset = slices::word(block, 28) as usize;

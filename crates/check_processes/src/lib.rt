@@ -16,7 +16,7 @@ fn sections_before(block: &[u8], n: u32) -> u64
     let mut sum: u64 = 0;
     let mut i: u32 = 0;
     while i < n {
-        let process = records::read_process_record(block, i);
+        let process = block_records::read_process_record(block, i);
         sum += process.sections as u64;
         i += 1;
     }
@@ -54,7 +54,7 @@ fn record_unfit(
 pub fn process_unfit(block: &[u8], i: u32) -> bool
     ensures { λ r. ⌜ r ≡ processUnfit (now (block .entry)) i ⌝ }
 {
-    let process = records::read_process_record(block, i);
+    let process = block_records::read_process_record(block, i);
     let before = sections_before(block, i);
     record_unfit(
         process.kind,
@@ -62,8 +62,8 @@ pub fn process_unfit(block: &[u8], i: u32) -> bool
         process.sections,
         before,
         before + process.sections as u64,
-        counts::section_count(block),
-        i as u64 + 1 == counts::process_count(block) as u64,
+        block_header::section_count(block),
+        i as u64 + 1 == block_header::process_count(block) as u64,
     )
 }
 
@@ -71,7 +71,7 @@ pub fn process_unfit(block: &[u8], i: u32) -> bool
 fn can_enter(block: &[u8], n: usize, at: u32) -> bool
     ensures { λ r. ⌜ r ≡ (executable (now (block .entry)) n && (leb (address (now (block .entry)) n) at && ltb at (sectionEnd (now (block .entry)) n))) ⌝ }
 {
-    let section = records::read_section(block, n);
+    let section = block_records::read_section(block, n);
     let end = section.address as u64 + section.size as u64;
     both(
         section.executable,
@@ -83,7 +83,7 @@ fn can_enter(block: &[u8], n: usize, at: u32) -> bool
 pub fn entry_point_outside(block: &[u8], i: u32) -> bool
     ensures { λ r. ⌜ r ≡ entryPointOutside (now (block .entry)) i ⌝ }
 {
-    let process = records::read_process_record(block, i);
+    let process = block_records::read_process_record(block, i);
     let first = process.first_section;
     let sections = process.sections;
     let entry_point = process.entry_point;

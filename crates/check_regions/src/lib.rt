@@ -55,7 +55,7 @@ fn below_previous(block: &[u8], at: u32, i: u32) -> bool
     if i == 0 {
         return false;
     }
-    let previous = records::read_region(block, i - 1);
+    let previous = block_records::read_region(block, i - 1);
     (at as u64) < previous.end
 }
 
@@ -63,13 +63,13 @@ fn below_previous(block: &[u8], at: u32, i: u32) -> bool
 pub fn region_unfit(block: &[u8], ram: Area, i: u32) -> bool
     ensures { λ r. ⌜ r ≡ regionUnfit (now (block .entry)) ram i ⌝ }
 {
-    let region = records::read_region(block, i);
+    let region = block_records::read_region(block, i);
     record_unfit(
         region.start,
         region.pages,
         region.end,
         below_previous(block, region.start, i),
         share_address(ram, region.start, region.pages),
-        tracker_size::io_pages_of(block, i) + region.pages as u64,
+        order_tracker::io_pages_of(block, i) + region.pages as u64,
     )
 }

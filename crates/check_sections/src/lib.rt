@@ -29,7 +29,7 @@ fn record_unfit(size: u32, flags: u32, writes: bool, skips: bool) -> bool
 fn section_unfit(block: &[u8], n: u32) -> bool
     ensures { λ r. ⌜ r ≡ sectionUnfit (now (block .entry)) n ⌝ }
 {
-    let section = records::read_section(block, n as usize);
+    let section = block_records::read_section(block, n as usize);
     record_unfit(
         section.size,
         section.flags,
@@ -42,7 +42,7 @@ fn section_unfit(block: &[u8], n: u32) -> bool
 fn has_section(block: &[u8], n: u32, i: u32) -> bool
     ensures { λ r. ⌜ r ≡ hasSection (now (block .entry)) n i ⌝ }
 {
-    let process = records::read_process_record(block, i);
+    let process = block_records::read_process_record(block, i);
     let end = process.first_section as u64 + process.sections as u64;
     both(process.first_section <= n, (n as u64) < end)
 }
@@ -51,7 +51,7 @@ fn has_section(block: &[u8], n: u32, i: u32) -> bool
 fn owner_of(block: &[u8], n: u32) -> u32
     ensures { λ r. ⌜ r ≡ ownerOf (now (block .entry)) n ⌝ }
 {
-    let mut q = counts::process_count(block);
+    let mut q = block_header::process_count(block);
     while 0 < q {
         if has_section(block, n, q - 1) {
             return q;
@@ -75,7 +75,7 @@ fn range_last(block: &[u8], q: u32) -> u32
     if q == 1 {
         return 0xFFEF_FFFF;
     }
-    4096 * (0x80000 - records::stack_pages(block, q)) - 1
+    4096 * (0x80000 - block_records::stack_pages(block, q)) - 1
 }
 
 // Refusal 8 of an address, an end, the range of the owner, and a first page that is not above the section before.
@@ -95,9 +95,9 @@ fn record_misplaced(address: u32, end: u64, first: u32, last: u32, low: bool) ->
 fn starts_low(block: &[u8], n: u32, q: u32) -> bool
     ensures { λ r. ⌜ r ≡ (not (eqb n (firstSection (now (block .entry)) q)) && leb (firstPage (now (block .entry)) n) (lastPage (now (block .entry)) (n - 1))) ⌝ }
 {
-    let process = records::read_process(block, q);
-    let section = records::read_section(block, n as usize);
-    let previous = records::read_section(block, numbers::minus(n as usize, 1));
+    let process = block_records::read_process(block, q);
+    let section = block_records::read_section(block, n as usize);
+    let previous = block_records::read_section(block, numbers::minus(n as usize, 1));
     both(
         n != process.first_section,
         section.first_page.0 <= previous.last_page.0,
@@ -110,7 +110,7 @@ fn section_misplaced(block: &[u8], n: u32) -> bool
 {
     let owner = owner_of(block, n);
     let low = starts_low(block, n, owner);
-    let section = records::read_section(block, n as usize);
+    let section = block_records::read_section(block, n as usize);
     let end = section.address as u64 + section.size as u64;
     record_misplaced(
         section.address,
@@ -125,7 +125,7 @@ fn section_misplaced(block: &[u8], n: u32) -> bool
 fn section_past_flash(block: &[u8], flash: usize, n: u32) -> bool
     ensures { λ r. ⌜ r ≡ sectionPastFlash (now (block .entry)) flash n ⌝ }
 {
-    let section = records::read_section(block, n as usize);
+    let section = block_records::read_section(block, n as usize);
     let end = section.flash_offset as u64 + section.size as u64;
     both(!section.no_copy, (flash as u64) < end)
 }

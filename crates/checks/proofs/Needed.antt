@@ -9,9 +9,9 @@ use borrow.Author.Tests.{lt-ltb, le-ltb}
 use Rattle.rules.specs.Block.{processCount}
 use Rattle.rules.specs.Order.{trackerPages}
 use Rattle.rules.specs.Refusals.{ramTooSmall}
-use Rattle.placement.specs.Places.{rootPlace}
-use Rattle.placement.specs.Room.{needed-place}
-use Rattle.places.specs.Capped.{capped}
+use Rattle.order_laws.specs.Places.{rootPlace}
+use Rattle.order_laws.specs.Room.{needed-place}
+use Rattle.order_places.specs.Capped.{capped}
 
 -- the cap changes no comparison with a smaller number
 below-capped : (n m : ℕ) → n < 0x1_0000 → ltb n (capped m) ≡ ltb n m

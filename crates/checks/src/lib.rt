@@ -4,7 +4,6 @@ use types::Verdict;
 ghost use mathlib.Core.List.{[], _∷_};
 ghost use mathlib.Core.Path.{_≡_};
 ghost use Prim.Native.Nat.{_/_, _≤_};
-ghost use Rattle.notation.specs.Choice.{choose};
 ghost use Rattle.rules.specs.Lent.{imageOf, areaOf};
 ghost use Rattle.rules.specs.Block.{processCount};
 ghost use Rattle.rules.specs.Refusals.{ramTooSmall, refused, firstRefusal, lentChecks, headerChecks, recordChecks, verdict};
@@ -30,18 +29,11 @@ fn record_count(scan: Scan, block: &[u8]) -> u32
     ensures { λ r. ⌜ r ≡ recordCount scan (now (block .entry)) ⌝ }
 {
     match scan {
-        Scan::Processes => counts::process_count(block),
-        Scan::Sections => counts::section_count(block),
-        Scan::EntryPoints => counts::process_count(block),
-        Scan::Regions => counts::region_count(block),
+        Scan::Processes => block_header::process_count(block),
+        Scan::Sections => block_header::section_count(block),
+        Scan::EntryPoints => block_header::process_count(block),
+        Scan::Regions => block_header::region_count(block),
     }
-}
-
-// The number where the cause is given, else 0.
-fn number_if(given: bool, number: u32) -> u32
-    ensures { λ r. ⌜ r ≡ choose given number 0 ⌝ }
-{
-    if given { number } else { 0 }
 }
 
 // The number of the refusal at record i, or 0.
@@ -49,10 +41,10 @@ fn refusal_at(scan: Scan, block: &[u8], flash: &[u8], ram: Area, i: u32) -> u32
     ensures { λ r. ⌜ r ≡ refusalAt scan (imageOf (now (block .entry)) (now (flash .entry))) ram i ⌝ }
 {
     match scan {
-        Scan::Processes => number_if(check_processes::process_unfit(block, i), 6),
+        Scan::Processes => numbers::flag(check_processes::process_unfit(block, i), 6),
         Scan::Sections => check_sections::section_refusal(block, flash.len(), i),
-        Scan::EntryPoints => number_if(check_processes::entry_point_outside(block, i), 10),
-        Scan::Regions => number_if(check_regions::region_unfit(block, ram, i), 11),
+        Scan::EntryPoints => numbers::flag(check_processes::entry_point_outside(block, i), 10),
+        Scan::Regions => numbers::flag(check_regions::region_unfit(block, ram, i), 11),
     }
 }
 
@@ -77,7 +69,7 @@ fn ram_too_small(block: &[u8], pages: u32) -> bool
     requires { ⌜ (pages ≤ 4096) × (processCount (now block) ≤ 16) ⌝ }
     ensures { λ r. ⌜ r ≡ ramTooSmall (now (block .entry)) pages ⌝ }
 {
-    pages < places::root_place(block, pages, counts::process_count(block) + 1)
+    pages < order_places::root_place(block, pages, block_header::process_count(block) + 1)
 }
 
 // Refusal 1, for RAM of `ram` bytes from `start` on.

@@ -27,8 +27,8 @@ use Rattle.rules.specs.Reader.{walk}
 use Rattle.rules.specs.Sees.{sees, seesOn, sectionView, seenFrom, rootOf, processSees}
 use Rattle.laws.specs.Choice.{by-choose, and-both, choose-yes}
 use Rattle.laws.specs.Lists.{Occurs}
-use Rattle.placement.specs.Uses.{InRam, in-ram, one-use, use-free, use-top}
-use Rattle.placement.specs.Places.{trackerPlace, place-tracker, ram-page-at}
+use Rattle.order_laws.specs.Uses.{InRam, in-ram, one-use, use-free, use-top}
+use Rattle.order_laws.specs.Places.{trackerPlace, place-tracker, ram-page-at}
 use Rattle.accepted.specs.NoCause.{NoCause, booted}
 use Rattle.accepted.specs.Fits.{Whole, Fits, whole, fits}
 use Rattle.accepted.specs.Sections.{section-in-space, section-in-flash}

@@ -11,7 +11,7 @@ use Rattle.rules.specs.Order.{Use, useOf, ramPage}
 use Rattle.rules.specs.Load.{pageByte, loaded, boots, ramAfter}
 use Rattle.laws.specs.Choice.{choose-yes, by-choose}
 use Rattle.laws.specs.Lists.{tab-length, tab-get}
-use Rattle.placement.specs.Uses.{InRam}
+use Rattle.order_laws.specs.Uses.{InRam}
 use Rattle.accepted.specs.Fits.{Whole}
 
 module _ (x : Image) (r : Ram) where

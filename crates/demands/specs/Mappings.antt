@@ -15,7 +15,7 @@ use Rattle.rules.specs.Order.{holds, pagesTaken, order, slotsOf, inSlots, hasLe
 use Rattle.laws.specs.Choice.{false-not-true, by-test, by-choose, and-left, and-right, and-both, choose-or}
 use Rattle.laws.specs.Lists.{Occurs, by-find-last, exists-hit, some-of-tab}
 use Rattle.accepted.specs.Sections.{has-page-first, has-page-last}
-use Rattle.placement.specs.Uses.{order-section, order-tracker, order-process-list, order-block-copy}
+use Rattle.order_laws.specs.Uses.{order-section, order-tracker, order-process-list, order-block-copy}
 
 pub in-tracker-first : (T v : ℕ) → inTracker T v ≡ true → 0xFFF40 ≤ v
 unfolding inTracker

@@ -31,7 +31,7 @@ use Rattle.laws.specs.Lists.{Occurs}
 use Rattle.laws.specs.Numbers.{leb-shift}
 use Rattle.laws.specs.Words.{word-of-bytes}
 use Rattle.accepted.specs.Fits.{Fits}
-use Rattle.placement.specs.Uses.{InRam, in-ram, order-root, order-leaf, order-process-list}
+use Rattle.order_laws.specs.Uses.{InRam, kernel-leaf, in-ram, order-root, order-leaf, order-process-list}
 use Rattle.demands.specs.Mappings.{Readable, readable, AtHome, at-home, homeOf, no-leaf, kernel-part}
 use Rattle.demands.specs.Entries.{decode-page, decode-pointer, decode-absent, decode-reserved, page-entry-word, pointer-entry-word}
 
@@ -63,10 +63,6 @@ unfolding rootEntry Rattle.rules.specs.Entries.absentEntry
 root-entry-word b phys h q m =
     choose-lt (eqb m 1023) _ _ _ (pointer-entry-word _ (h (leafTable 1 1023)))
     (choose-lt (hasLeaf b q m) _ _ _ (pointer-entry-word _ (h (leafTable q m))) (omega arith))
-
-kernel-leaf : (b : List ℕ) → hasLeaf b 1 1023 ≡ true
-unfolding hasLeaf choose
-kernel-leaf b = refl
 
 -- BYTES: by page and offset, and by address
 section-byte-at : (x : Image) (n i a : ℕ) → firstPage (x .block) n + i ≡ a / 4096 → sectionPageByte x n i (a % 4096) ≡ sectionByte x n a

@@ -13,7 +13,7 @@ use Rattle.rules.specs.Order.{pagesNeeded, freePages, trackerPages}
 use Rattle.rules.specs.Refusals.{verdict}
 use Rattle.rules.specs.Load.{loaded, boots, ramAfter, refusalAnswer, bootAnswer, answerOn, answer}
 use Rattle.laws.specs.Choice.{choose-yes, choose-no}
-use Rattle.placement.specs.Room.{needed-parts}
+use Rattle.order_laws.specs.Room.{needed-parts}
 use Rattle.accepted.specs.Fits.{Fits}
 
 pub tracker-few : (b : List ℕ) (ram : PageRange) → Fits b ram → trackerPages b (ram .pages) ≤ 4096

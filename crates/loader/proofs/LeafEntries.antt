@@ -12,12 +12,13 @@ use lib.ListN.{length, getD}
 use borrow.Author.Tests.{eq-eqb, ne-eqb, eqb-true, leb-true, ltb-true, le-leb, lt-leb, lt-ltb, le-ltb}
 use Rattle.notation.specs.Choice.{choose}
 use Rattle.notation.specs.Lists.{tab, findLast}
-use Rattle.laws.specs.Choice.{choose-yes, choose-no, choose-map, and-left, and-right}
+use Rattle.laws.specs.Numbers.{leb-one}
+use Rattle.laws.specs.Choice.{choose-same, choose-yes, choose-no, choose-map, and-left, and-right}
 use Rattle.laws.specs.Lists.{tab-length, tab-get, tab-same, find-last-none, find-last-next}
 use Rattle.types.specs.declared.PageRange.{PageRange}
 use Rattle.types.specs.declared.Rights.{Rights}
-use Rattle.records.specs.Read.{IsSection}
-use Rattle.records.specs.declared.Section.{Section}
+use Rattle.block_records.specs.Read.{IsSection}
+use Rattle.block_records.specs.declared.Section.{Section}
 use Rattle.rules.specs.Block.{processCount, stackPages, sectionsOf, sectionRecord, firstSection, firstPage, lastPage, pageCount}
 use Rattle.rules.specs.Space.{Data, sectionPage, trackerPage, processList, blockCopy, Mapping, stack, maps, sectionRights, kernelRead, kernelWrite, hasPage, sectionMapping, sectionAtPage, inTracker, kernelPage, inStack, userPage, mappingAt}
 use Rattle.rules.specs.Order.{Use, holds, pagesTaken, hasLeaf, pagesFor, trackerPages, uses, pagesNeeded}
@@ -25,9 +26,9 @@ use Rattle.rules.specs.Entries.{absentEntry, reservedEntry, pageEntry}
 use Rattle.rules.specs.Tables.{entryFor, leafEntry}
 use Rattle.laws.specs.Counts.{sum-le}
 use Rattle.rules.specs.Load.{physPage}
-use Rattle.placement.specs.Places.{At, pagesBefore, processPages, userPages, sectionPlace, trackerPlace, user-pages-next, pages-before-none, pages-before-next, place-section, place-tracker, place-process-list, place-block-copy, ram-page-at}
-use Rattle.placement.specs.Room.{needed-parts}
-use Rattle.tables.specs.Filled.{pagesMapped, stackReserved, stack-reserved}
+use Rattle.order_laws.specs.Places.{At, pagesBefore, processPages, userPages, sectionPlace, trackerPlace, user-pages-next, pages-before-none, pages-before-next, place-section, place-tracker, place-process-list, place-block-copy, ram-page-at}
+use Rattle.order_laws.specs.Room.{needed-parts}
+use Rattle.sv32_tables.specs.Filled.{pagesMapped, stackReserved, stack-reserved}
 use Rattle.accepted.specs.Fits.{Fits}
 use Rattle.loader.specs.LeafEntries.{entriesOf, rightsOf}
 
@@ -85,21 +86,7 @@ module _ {b : List ℕ} {ram : PageRange} (fits : Fits b ram) where
   phys-mod u i P a e = mod-eq-of-lt (omega (arith, fits .end, fits .enough, a .inside)) ∙ phys-at u i P a e
 
 -- ONE MAPPING OVER ANOTHER
-choose-same : {A : Type 0} (c : Bool) (x y z : A) → (c ≡ true → x ≡ y) → choose c x z ≡ choose c y z
-unfolding choose
-choose-same true x y z h = h refl
-choose-same false x y z h = refl
-
--- one page, and T pages, as a first and a last one
-one-page : (x v : ℕ) → (leb x v && leb v x) ≡ eqb v x
-one-page x v = elim (ℕ-discrete v x) [
-  | yes e ↦ rw (eq-eqb v x e, le-leb x v (omega arith), le-leb v x (omega arith))
-  | no e ↦ elim (decLt v x) [
-    | yes l ↦ rw (ne-eqb v x e, lt-leb x v l)
-    | no l ↦ rw (ne-eqb v x e, le-leb x v (omega arith), lt-leb v x (omega arith))
-  ]
-]
-
+-- T pages, as a first and a last one
 tracker-test : (T v : ℕ) → 1 ≤ T → (leb 0xFFF40 v && leb v (0xFFF40 + (T - 1))) ≡ inTracker T v
 unfolding inTracker
 tracker-test T v h = elim (decLt v (0xFFF40 + T)) [
@@ -140,7 +127,7 @@ module _ (phys : Use → ℕ) (m : ℕ) where
       → P % 0x40_0000 ≡ phys (holds d)
       → pagesMapped e m x x P t ≡ entriesOf phys (λ v. choose (eqb v x) (maps d t) (old v)) m
   unfolding entryFor
-  page-over old x P d t e p h = pages-over old (λ _. maps d t) x x P t (λ v. eqb v x) e p (one-page x) (λ v c.
+  page-over old x P d t e p h = pages-over old (λ _. maps d t) x x P t (λ v. eqb v x) e p (leb-one x) (λ v c.
       let s : v ≡ x = eqb-true v x c in
       let z : P - (v - x) ≡ P = omega arith in
       rw (z, h))

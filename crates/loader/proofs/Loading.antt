@@ -11,10 +11,10 @@ use Rattle.rules.specs.Space.{processList, blockCopy}
 use Rattle.rules.specs.Order.{Use, holds, allSections, trackerUses, allTables, belowTop, uses, trackerPages, pagesNeeded, freePages}
 use Rattle.rules.specs.Contents.{processListByte, dataByte}
 use Rattle.rules.specs.Load.{satpWord, pageByte, loaded}
-use Rattle.placement.specs.Places.{trackerPlace, rootPlace, tracker-uses-length, all-sections-length, tables-before-none}
-use Rattle.placement.specs.Room.{needed-place}
-use Rattle.places.specs.Capped.{capped}
-use Rattle.places.proofs.Capped.{uncapped}
+use Rattle.order_laws.specs.Places.{trackerPlace, rootPlace, tracker-uses-length, all-sections-length, tables-before-none}
+use Rattle.order_laws.specs.Room.{needed-place}
+use Rattle.order_places.specs.Capped.{capped}
+use Rattle.order_places.proofs.Capped.{uncapped}
 use Rattle.writing.specs.Pages.{put}
 use Rattle.writing.specs.Uses.{Wrote, wrote-page, wrote-then}
 use Rattle.writing.specs.Loaded.{content, below-top-length, written-is-loaded, sectionContent, wrote-sections, WroteAny}

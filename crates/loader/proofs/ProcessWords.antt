@@ -13,8 +13,8 @@ use Rattle.rules.specs.Block.{processCount, entryPoint}
 use Rattle.rules.specs.Order.{rootTable, tableUses, trackerPages}
 use Rattle.rules.specs.Contents.{stackPointer, processWord, processListByte}
 use Rattle.rules.specs.Load.{physPage, satpWord}
-use Rattle.placement.specs.Places.{trackerPlace, tableCount, rootPlace, tables-before-none, tables-before-next, table-uses-length, place-root, ram-page-at}
-use Rattle.placement.specs.Room.{needed-parts, tables-room}
+use Rattle.order_laws.specs.Places.{trackerPlace, tableCount, rootPlace, tables-before-none, tables-before-next, table-uses-length, place-root, ram-page-at}
+use Rattle.order_laws.specs.Room.{needed-parts, tables-room}
 use Rattle.word_stores.specs.Words.{withWord}
 use Rattle.stores.proofs.Written.{Written, written-then, written-same, below-bound, chosen-is}
 use Rattle.word_stores.proofs.Words.{wordOf, with-word-written}

@@ -22,12 +22,13 @@ use Rattle.rules.specs.Tables.{rootEntry, leafEntry}
 use Rattle.rules.specs.Load.{physPage, tableByte, pageByte}
 use Rattle.laws.specs.Choice.{by-test, choose-yes, choose-no}
 use Rattle.laws.specs.Lists.{tab-length, tab-get, tab-same}
-use Rattle.laws.specs.Counts.{one, one-yes, one-no, sum-same, sum-zero}
+use Rattle.laws.specs.Counts.{one, one-yes, one-no, sum-at, sum-same, sum-zero}
 use Rattle.word_stores.specs.Words.{withWords}
-use Rattle.leaves.specs.Marks.{leafMarks}
-use Rattle.tables.specs.Filled.{marked, markedBelow, leavesPointed}
-use Rattle.placement.specs.Places.{leavesBelow, rootPlace, tableCount, place-leaf, ram-page-at, tables-length, tables-before-none}
-use Rattle.placement.specs.Room.{tables-room}
+use Rattle.order_leaves.specs.Marks.{leafMarks}
+use Rattle.sv32_tables.specs.Filled.{marked, markedBelow, leavesPointed}
+use Rattle.order_laws.specs.Uses.{kernel-leaf}
+use Rattle.order_laws.specs.Places.{leavesBelow, rootPlace, tableCount, place-leaf, ram-page-at, tables-length, tables-before-none}
+use Rattle.order_laws.specs.Room.{tables-room}
 use Rattle.writing.specs.Pages.{put, put-part, put-same}
 use Rattle.writing.specs.Uses.{wrote-page}
 use Rattle.writing.specs.Loaded.{content, WroteAny, wrote-any, any-none, any-then}
@@ -126,21 +127,9 @@ root-page b ram q r marks e e₁ e₂ k first kernel at em ez e1 e2 p =
     ])
 
 -- ROOM FOR THE TABLES
-sum-at : (n k : ℕ) (f : ℕ → ℕ) → k < n → sum k f + f k ≤ sum n f
-unfolding sum
-sum-at zero k f h = absurd (omega arith)
-sum-at (suc n) k f h = elim (decLt k n) [
-  | yes l ↦ omega (arith, sum-at n k f l)
-  | no l ↦ let e : k ≡ n = omega arith in rw e (omega arith)
-]
-
 leaf-below : (b : List ℕ) (q m : ℕ) → m < 1024 → hasLeaf b q m ≡ true → leavesBelow b q m < leavesBelow b q 1024
 unfolding leavesBelow
 leaf-below b q m h e = omega (arith, sum-at 1024 m (λ k. one (hasLeaf b q k)) h, one-yes e)
-
-kernel-slot : (b : List ℕ) → hasLeaf b 1 1023 ≡ true
-unfolding hasLeaf choose
-kernel-slot b = refl
 
 stack-slot : (b : List ℕ) (q : ℕ) → q ≢ 1 → hasLeaf b q 511 ≡ true
 unfolding hasLeaf choose
@@ -153,7 +142,7 @@ kernel-below b = sum-zero 1023 _ (λ k h. one-no (ne-eqb k 1023 (λ e. omega ari
 -- the root and at least one leaf
 two-tables : (b : List ℕ) (q : ℕ) → 1 ≤ leavesBelow b q 1024
 two-tables b q = elim (ℕ-discrete q 1) [
-  | yes e ↦ rw e (omega (arith, leaf-below b 1 1023 (omega arith) (kernel-slot b)))
+  | yes e ↦ rw e (omega (arith, leaf-below b 1 1023 (omega arith) (kernel-leaf b)))
   | no e ↦ omega (arith, leaf-below b q 511 (omega arith) (stack-slot b q e))
 ]
 
@@ -184,7 +173,7 @@ pub kernel-at : (b : List ℕ) (ram : PageRange) (left : ℕ) {n k P : ℕ} → 
     → n ≡ left - 1 → k ≡ n - 1 → P ≡ (ram .base + k) % 0x1_0000_0000 → P ≡ physPage b ram (leafTable 1 1023)
 kernel-at b ram left f l en ek e =
     first-leaf b ram 1 left f (omega arith) (f .some-process) l en ek e
-    ∙ sym (leaf-phys b ram 1 1023 left f (omega arith) (f .some-process) l (omega arith) (kernel-slot b) ∙ rw (kernel-below b) (omega arith))
+    ∙ sym (leaf-phys b ram 1 1023 left f (omega arith) (f .some-process) l (omega arith) (kernel-leaf b) ∙ rw (kernel-below b) (omega arith))
 
 pub leaves-at : (b : List ℕ) (ram : PageRange) (q left kernel : ℕ) {n k first : ℕ} → Fits b ram → 1 ≤ q → q ≤ processCount b
     → kernel ≡ physPage b ram (leafTable 1 1023) → left ≡ ram .pages - rootPlace b (trackerPages b (ram .pages)) q

@@ -20,8 +20,8 @@ use Rattle.rules.specs.Contents.{tracker, dataByte}
 use Rattle.rules.specs.Load.{pageByte}
 use Rattle.accepted.specs.Tracker.{tracker-byte, tracker-io}
 use Rattle.accepted.specs.Fits.{Fits}
-use Rattle.placement.specs.Uses.{afterUsers, order-users, every-after-users}
-use Rattle.placement.specs.Places.{processPages, userPages, sectionPlace, trackerPlace, section-uses-length, user-uses-length, user-pages-next, order-count}
+use Rattle.order_laws.specs.Uses.{afterUsers, order-users, every-after-users}
+use Rattle.order_laws.specs.Places.{processPages, userPages, sectionPlace, trackerPlace, section-uses-length, user-uses-length, user-pages-next, order-count}
 use Rattle.writing.specs.Pages.{put}
 use Rattle.writing.specs.Uses.{wrote-page}
 use Rattle.writing.specs.Loaded.{content, WroteAny, wrote-any, any-tab-next}

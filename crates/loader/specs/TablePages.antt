@@ -7,7 +7,7 @@ use Rattle.notation.specs.Choice.{choose}
 use Rattle.types.specs.declared.PageRange.{PageRange}
 use Rattle.rules.specs.Order.{Use, leafTable, hasLeaf}
 use Rattle.rules.specs.Load.{physPage}
-use Rattle.placement.specs.Places.{leavesBelow}
+use Rattle.order_laws.specs.Places.{leavesBelow}
 
 -- the leaf table of process q for root slot m, if it has one
 unfoldable pub leafUses : List ℕ → ℕ → ℕ → List Use

@@ -11,10 +11,11 @@ ghost use Rattle.rules.specs.Tables.{leafEntry};
 ghost use Rattle.rules.specs.Load.{physPage};
 ghost use Rattle.accepted.specs.Fits.{Fits};
 ghost use Rattle.loader.specs.LeafEntries.{entriesOf, rightsOf};
-use places::section_place;
-use places::tracker_place;
-use ram_pages::page_at;
-use records::Section;
+use block_records::Section;
+use order_places::section_place;
+use order_places::tracker_place;
+use page_allocator::page_at;
+use types::KERNEL_SLOT;
 use types::PageRange;
 use types::Rights;
 use types::VirtPage;
@@ -57,14 +58,14 @@ fn map_sections(entries: &mut [u32], block: &[u8], range: PageRange, q: u32, m: 
     requires { ⌜ Fits (now block) range × (1 ≤ q) × (q ≤ processCount (now block)) × (now entries ≡ tab 1024 (λ i. 0)) ⌝ }
     ensures { λ _. ⌜ now (entries .exit) ≡ entriesOf (physPage (now (block .entry)) range) (sectionAtPage (now (block .entry)) q) m ⌝ }
 {
-    let process = records::read_process(block, q);
+    let process = block_records::read_process(block, q);
     let first = process.first_section;
     let count = process.sections;
     let mut place = section_place(block, q);
     let mut j: u32 = 0;
     while j < count {
-        let section = records::read_section(block, first as usize + j as usize);
-        tables::map_pages(
+        let section = block_records::read_section(block, first as usize + j as usize);
+        sv32_tables::map_pages(
             entries,
             m,
             section.first_page,
@@ -84,18 +85,18 @@ fn kernel_entries(entries: &mut [u32], block: &[u8], range: PageRange)
     ensures { λ _. ⌜ now (entries .exit) ≡ entriesOf (physPage (now (block .entry)) range) (kernelPage (now (block .entry)) (trackerPages (now (block .entry)) (range .pages))) 1023 ⌝ }
 {
     let place = tracker_place(block);
-    let count = tracker_size::tracker_pages(block, range.pages) as u32;
+    let count = order_tracker::tracker_pages(block, range.pages) as u32;
     let tracker = page_at(range, place);
     let list = page_at(range, place + count);
     let copy = page_at(range, place + count + 1);
-    map_sections(entries, block, range, 1, 1023);
+    map_sections(entries, block, range, 1, KERNEL_SLOT);
     let at = VirtPage(BLOCK_COPY);
-    tables::map_pages(entries, 1023, at, at, copy, kernel_rights(false));
+    sv32_tables::map_pages(entries, KERNEL_SLOT, at, at, copy, kernel_rights(false));
     let from = VirtPage(TRACKER);
     let to = VirtPage(TRACKER + (count - 1));
-    tables::map_pages(entries, 1023, from, to, tracker, kernel_rights(true));
+    sv32_tables::map_pages(entries, KERNEL_SLOT, from, to, tracker, kernel_rights(true));
     let at = VirtPage(PROCESS_LIST);
-    tables::map_pages(entries, 1023, at, at, list, kernel_rights(false));
+    sv32_tables::map_pages(entries, KERNEL_SLOT, at, at, list, kernel_rights(false));
 }
 
 // A user process's leaf table for root slot m: its sections, and over them the stack reservation.
@@ -104,7 +105,7 @@ fn user_entries(entries: &mut [u32], block: &[u8], range: PageRange, q: u32, m: 
     ensures { λ _. ⌜ now (entries .exit) ≡ entriesOf (physPage (now (block .entry)) range) (userPage (now (block .entry)) q) m ⌝ }
 {
     map_sections(entries, block, range, q, m);
-    tables::reserve_stack(entries, m, records::stack_pages(block, q));
+    sv32_tables::reserve_stack(entries, m, block_records::stack_pages(block, q));
 }
 
 // The leaf table of process q for root slot m, from entries that are all absent. In slot 1,023 every process has the
@@ -113,7 +114,7 @@ pub(crate) fn leaf_entries(entries: &mut [u32], block: &[u8], range: PageRange, 
     requires { ⌜ Fits (now block) range × (1 ≤ q) × (q ≤ processCount (now block)) × (hasLeaf (now block) q m ≡ true) × (now entries ≡ tab 1024 (λ i. 0)) ⌝ }
     ensures { λ _. ⌜ now (entries .exit) ≡ tab 1024 (leafEntry (now (block .entry)) (trackerPages (now (block .entry)) (range .pages)) (physPage (now (block .entry)) range) q m) ⌝ }
 {
-    if m == 1023 {
+    if m == KERNEL_SLOT {
         kernel_entries(entries, block, range);
         return;
     }

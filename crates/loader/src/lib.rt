@@ -7,9 +7,10 @@ ghost use Rattle.rules.specs.Order.{freePages};
 ghost use Rattle.rules.specs.Load.{loaded, answer, ramAfter};
 ghost use Rattle.writing.specs.Pages.{put};
 ghost use Rattle.accepted.specs.Fits.{Accepted};
-use ram_pages::PageAllocator;
+use page_allocator::PageAllocator;
 use types::Answer;
 use types::PageRange;
+use types::TOP_PAGES;
 
 mod leaf_entries;
 mod process_list;
@@ -25,7 +26,7 @@ fn load_block(ram: &mut [u8], block: &[u8], from: PageAllocator) -> PageAllocato
     let start = numbers::least(got.page.0 as usize * 4096, ram.len());
     let end = numbers::least(start + 4096, ram.len());
     let page = &mut ram[start..end];
-    pages::block_page(page, block);
+    load_page::block_page(page, block);
     got.rest
 }
 
@@ -40,11 +41,15 @@ fn load_pages(block: &[u8], flash: &[u8], ram: &mut [u8], start: u32) -> u32
         pages: (ram.len() / 4096) as u32,
     };
     // The place after all tables.
-    let needed = places::root_place(block, range.pages, counts::process_count(block) + 1);
+    let needed = order_places::root_place(
+        block,
+        range.pages,
+        block_header::process_count(block) + 1,
+    );
     let below_top = PageAllocator {
-        left: range.pages - 4,
+        left: range.pages - TOP_PAGES,
     };
-    let after_sections = sections::load_sections(ram, block, flash, below_top);
+    let after_sections = load_sections::load_sections(ram, block, flash, below_top);
     let after_tracker = tracker::load_tracker(ram, block, range, needed, after_sections);
     let after_list = process_list::load_process_list(ram, block, range, after_tracker);
     let after_copy = load_block(ram, block, after_list);
@@ -69,7 +74,7 @@ pub fn load(block: &[u8], flash: &[u8], ram: &mut [u8], start: u32) -> Answer
         };
     }
     let pages = (ram.len() / 4096) as u32;
-    let tracker = tracker_size::tracker_pages(block, pages) as u32;
+    let tracker = order_tracker::tracker_pages(block, pages) as u32;
     let free = load_pages(block, flash, ram, start);
     Answer {
         number: 0,

@@ -8,11 +8,11 @@ ghost use Rattle.rules.specs.Order.{trackerPages};
 ghost use Rattle.rules.specs.Contents.{stackPointer, processListByte};
 ghost use Rattle.rules.specs.Load.{satpWord};
 ghost use Rattle.word_stores.specs.Words.{withWord};
-ghost use Rattle.placement.specs.Places.{trackerPlace, rootPlace};
+ghost use Rattle.order_laws.specs.Places.{trackerPlace, rootPlace};
 ghost use Rattle.writing.specs.Pages.{put};
 ghost use Rattle.accepted.specs.Fits.{Fits};
-use ram_pages::PageAllocator;
-use ram_pages::page_at;
+use page_allocator::PageAllocator;
+use page_allocator::page_at;
 use types::PageRange;
 use types::PhysPage;
 
@@ -34,7 +34,7 @@ fn put_process(page: &mut [u8], block: &[u8], q: u32, root: PhysPage)
         (12 * (q - 1) + 4) (entryPoint (now (block .entry)) q))
         (12 * (q - 1) + 8) (stackPointer q) ⌝ }
 {
-    let process = records::read_process(block, q);
+    let process = block_records::read_process(block, q);
     let at = 12 * (q as usize - 1);
     word_stores::put_word(page, at, 0x8000_0000 + 0x40_0000 * q + root.0);
     word_stores::put_word(page, at + 4, process.entry_point);
@@ -48,13 +48,13 @@ fn list_processes(page: &mut [u8], block: &[u8], range: PageRange, first: u32)
     ensures { λ _. ⌜ now (page .exit) ≡ tab (length (now (page .entry))) (processListByte (now (block .entry)) (satpWord (now (block .entry)) range)) ⌝ }
 {
     stores::clear(page);
-    let count = counts::process_count(block);
+    let count = block_header::process_count(block);
     let mut place = first;
     let mut i: u32 = 0;
     while i < count {
         let root = page_at(range, place);
         put_process(page, block, i + 1, root);
-        place += leaves::table_count(block, i + 1);
+        place += order_leaves::table_count(block, i + 1);
         i += 1;
     }
 }

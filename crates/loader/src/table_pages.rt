@@ -8,18 +8,19 @@ ghost use Rattle.rules.specs.Block.{processCount};
 ghost use Rattle.rules.specs.Order.{hasLeaf, tableUses, allTables, trackerPages, leafTable};
 ghost use Rattle.rules.specs.Tables.{rootEntry, leafEntry};
 ghost use Rattle.rules.specs.Load.{physPage, tableByte};
-ghost use Rattle.placement.specs.Places.{rootPlace};
-ghost use Rattle.leaves.specs.Marks.{leafMarks};
+ghost use Rattle.order_laws.specs.Places.{rootPlace};
+ghost use Rattle.order_leaves.specs.Marks.{leafMarks};
 ghost use Rattle.writing.specs.Pages.{put};
 ghost use Rattle.writing.specs.Loaded.{WroteAny};
 ghost use Rattle.accepted.specs.Fits.{Fits};
 ghost use Rattle.loader.specs.TablePages.{leafUses, LeavesAt};
 use crate::leaf_entries::leaf_entries;
-use ram_pages::PageAllocator;
-use ram_pages::physical;
+use page_allocator::PageAllocator;
+use page_allocator::physical;
 use types::PageRange;
 use types::PhysPage;
 use types::RamPage;
+use types::TABLE_ENTRIES;
 
 // Stores a table as RAM page k.
 fn store(ram: &mut [u8], k: RamPage, entries: &[u32])
@@ -48,8 +49,8 @@ fn load_root(
     ensures { λ _. ⌜ now (ram .exit) ≡ put (now (ram .entry)) (k .0) (tableByte (rootEntry (now (block .entry)) (physPage (now (block .entry)) range) q)) ⌝ }
 {
     let mut entries = [0u32; 1024];
-    tables::point_to_leaves(&mut entries, marks, first);
-    tables::point_to_kernel(&mut entries, kernel_leaf);
+    sv32_tables::point_to_leaves(&mut entries, marks, first);
+    sv32_tables::point_to_kernel(&mut entries, kernel_leaf);
     store(ram, k, &entries);
 }
 
@@ -98,7 +99,7 @@ fn load_leaves(
 {
     let mut next = from;
     let mut m: u32 = 0;
-    while m < 1024 {
+    while m < TABLE_ENTRIES {
         let mark = slices::byte(marks, m as usize);
         next = load_marked(ram, block, range, q, m, mark, next);
         m += 1;
@@ -120,7 +121,7 @@ fn load_process_tables(
     ensures { λ r. ⌜ WroteAny (now (block .entry)) range (tableUses (now (block .entry)) q) (now (ram .entry)) (from .left) (now (ram .exit)) (r .left) ⌝ }
 {
     let mut marks = [0u8; 1024];
-    leaves::leaf_marks(block, q, &mut marks);
+    order_leaves::leaf_marks(block, q, &mut marks);
     let root = from.allocate();
     // The page that the first leaf table gets.
     let leaf = root.rest.allocate();
@@ -143,7 +144,7 @@ pub(crate) fn load_tables(
     let root = from.allocate();
     let leaf = root.rest.allocate();
     let kernel_leaf = physical(range, leaf.page);
-    let count = counts::process_count(block);
+    let count = block_header::process_count(block);
     let mut next = from;
     let mut i: u32 = 0;
     while i < count {

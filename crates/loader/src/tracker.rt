@@ -8,9 +8,10 @@ ghost use Rattle.rules.specs.Contents.{tracker};
 ghost use Rattle.writing.specs.Pages.{put};
 ghost use Rattle.writing.specs.Loaded.{WroteAny};
 ghost use Rattle.accepted.specs.Fits.{Fits};
-use ram_pages::PageAllocator;
+use page_allocator::PageAllocator;
 use types::PageRange;
 use types::RamPage;
+use types::TOP_PAGES;
 
 // The owners of all RAM pages: the pages taken are the kernel's, but for the section pages of user processes.
 fn track_owners(page: &mut [u8], block: &[u8], range: PageRange, needed: u32)
@@ -20,12 +21,12 @@ fn track_owners(page: &mut [u8], block: &[u8], range: PageRange, needed: u32)
     let pages = range.pages;
     stores::clear(page);
     stores::fill(page, (pages - needed) as usize, pages as usize, 1);
-    let users = counts::process_count(block) - 1;
+    let users = block_header::process_count(block) - 1;
     // Below the four pages at the top: process 2's, then process 3's and so on.
-    let mut end = pages - 4;
+    let mut end = pages - TOP_PAGES;
     let mut i: u32 = 0;
     while i < users {
-        let start = end - places::process_pages(block, i + 2) as u32;
+        let start = end - order_places::process_pages(block, i + 2) as u32;
         stores::fill(page, start as usize, end as usize, (i + 2) as u8);
         end = start;
         i += 1;
@@ -74,7 +75,7 @@ pub(crate) fn load_tracker(
     ensures { λ r. ⌜ WroteAny (now (block .entry)) range (trackerUses (trackerPages (now (block .entry)) (range .pages)))
         (now (ram .entry)) (from .left) (now (ram .exit)) (r .left) ⌝ }
 {
-    let count = tracker_size::tracker_pages(block, range.pages) as u32;
+    let count = order_tracker::tracker_pages(block, range.pages) as u32;
     let mut next = from;
     let mut i: u32 = 0;
     while i < count {

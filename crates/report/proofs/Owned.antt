@@ -21,36 +21,15 @@ use Rattle.rules.specs.Refusals.{verdict}
 use Rattle.rules.specs.Load.{physPage, bootAnswer, refusalAnswer, answerOn, answer}
 use Rattle.laws.specs.Choice.{by-choose, choose-yes, and-both}
 use Rattle.laws.specs.Lists.{Every, Absent, every-tab, every-gather}
-use Rattle.laws.specs.Counts.{one-yes, sum-same, sum-first, count-nil, count-cons, count-none}
-use Rattle.placement.specs.Uses.{afterUsers, order-users, every-after-users}
-use Rattle.placement.specs.Places.{processPages, userPages, user-pages-none, user-pages-next, section-uses-length}
+use Rattle.laws.specs.Counts.{sum-same, sum-first, count-append, count-all, count-gather, count-none}
+use Rattle.order_laws.specs.Uses.{afterUsers, order-users, every-after-users}
+use Rattle.order_laws.specs.Places.{processPages, userPages, user-pages-none, user-pages-next, section-uses-length}
 use Rattle.accepted.specs.NoCause.{no-cause}
 use Rattle.accepted.specs.Fits.{fits}
 use Rattle.accepted.specs.Counting.{owners-sum}
-use Rattle.roots.specs.declared.Root.{Root}
-use Rattle.roots.specs.declared.Root.the-variants.{Nowhere, At}
-use Rattle.roots.specs.Roots.{isProcess, rootFound}
-
--- COUNTS
-module _ {A : Type 0} (t : A → Bool) where
-  count-append : (l m : List A) → count t (l ++ m) ≡ count t l + count t m
-  count-append [] m = omega (arith, count-nil t)
-  count-append (x ∷ l) m = count-cons t x (l ++ m) ∙ omega (arith, count-cons t x l, count-append l m)
-
-  count-all : (l : List A) → Every (λ x. t x ≡ true) l → count t l ≡ length l
-  count-all [] e = count-nil t
-  count-all (x ∷ l) e = count-cons t x l ∙ omega (arith, one-yes (e .0), count-all l (e .1))
-
-  -- only list k of those gathered has elements that pass
-  count-gather : (n : ℕ) (f : ℕ → List A) (k : ℕ) → k < n → ((m : ℕ) → m ≢ k → Absent t (f m)) → count t (gather n f) ≡ count t (f k)
-  unfolding gather
-  count-gather zero f k h a = absurd (not-suc-le-zero h)
-  count-gather (suc n) f k h a = count-append (gather n f) (f n) ∙ elim (decLt k n) [
-    | yes l ↦ omega (arith, count-gather n f k l a, count-none t (f n) (a n (λ e. omega arith)))
-    | no l ↦
-        let e : k ≡ n = omega arith in
-        rw e (omega (arith, count-none t (gather n f) (every-gather _ n f (λ m h. a m (λ z. omega arith)))))
-  ]
+use Rattle.order_roots.specs.declared.Root.{Root}
+use Rattle.order_roots.specs.declared.Root.the-variants.{Nowhere, At}
+use Rattle.order_roots.specs.Roots.{isProcess, rootFound}
 
 -- A USER: its sections' pages
 module _ (b : List ℕ) (q : ℕ) (n : q ≢ 1) where

@@ -8,11 +8,11 @@ ghost use Rattle.rules.specs.Block.{processCount};
 ghost use Rattle.rules.specs.Order.{rootTable, pagesOf};
 ghost use Rattle.rules.specs.Refusals.{verdict};
 ghost use Rattle.rules.specs.Load.{physPage, ramAfter};
-ghost use Rattle.placement.specs.Places.{processPages, userPages};
+ghost use Rattle.order_laws.specs.Places.{processPages, userPages};
 ghost use Rattle.text.specs.Text.{Appended};
 ghost use Rattle.report.specs.Lines.{twoNumbers, bootLine, processLine, refusedLine};
 ghost use Rattle.report.specs.Listing.{processLines, listing};
-use roots::Root;
+use order_roots::Root;
 
 // A text with two numbers in it.
 fn two_numbers(
@@ -73,11 +73,11 @@ fn refused_line(to: &mut [u8], at: usize, number: u32, place: u32) -> usize
 fn kernel_pages(block: &[u8], taken: u32) -> u64
     ensures { λ r. ⌜ r ≡ taken - userPages (now (block .entry)) (processCount (now (block .entry)) - 1) ⌝ }
 {
-    let count = counts::process_count(block);
+    let count = block_header::process_count(block);
     let mut left = taken as usize;
     let mut i: u32 = 1;
     while i < count {
-        left = numbers::minus(left, places::process_pages(block, i + 1) as usize);
+        left = numbers::minus(left, order_places::process_pages(block, i + 1) as usize);
         i += 1;
     }
     left as u64
@@ -90,7 +90,7 @@ fn pages_of(block: &[u8], kernel: u64, q: u32) -> u64
     if q == 1 {
         return kernel;
     }
-    places::process_pages(block, q)
+    order_places::process_pages(block, q)
 }
 
 // The page number of process q's root table, where the block boots.
@@ -98,7 +98,7 @@ fn root_page(block: &[u8], flash: &[u8], start: u32, ram: usize, q: u32) -> u32
     requires { ⌜ (verdict (imageOf (now block) (now flash)) (areaOf start ram) .number ≡ 0) × (1 ≤ q) × (q ≤ processCount (now block)) ⌝ }
     ensures { λ r. ⌜ r ≡ physPage (now (block .entry)) (pagesIn (areaOf start ram)) (rootTable q) ⌝ }
 {
-    match roots::find_root(block, flash, start, ram, q) {
+    match order_roots::find_root(block, flash, start, ram, q) {
         Root::Nowhere => 0,
         Root::At(page) => page.0,
     }
@@ -117,7 +117,7 @@ fn process_lines(
     requires { ⌜ (verdict (imageOf (now block) (now flash)) (areaOf start ram) .number ≡ 0) × (kernel ≡ pagesOf (now block) (ram / 4096) 1) ⌝ }
     ensures { λ r. ⌜ Appended (now (to .entry)) at (processLines (now (block .entry)) (pagesIn (areaOf start ram)) (processCount (now (block .entry)))) (now (to .exit)) r ⌝ }
 {
-    let count = counts::process_count(block);
+    let count = block_header::process_count(block);
     let mut end = numbers::least(at, to.len());
     let mut i: u32 = 0;
     while i < count {

@@ -101,6 +101,6 @@ pub extern "C" fn rigpollen_walk(
     ensures { λ r. ⌜ (r ≡ entryNumber (walk (ramOf «ram_start» (now (ram .entry))) root address))
         × (now (page .exit) ≡ sets (now (page .entry)) 0 (entryWords (walk (ramOf «ram_start» (now (ram .entry))) root address))) ⌝ }
 {
-    let entry = reader::walk(ram, ram_start, PhysPage(root), address);
+    let entry = sv32_reader::walk(ram, ram_start, PhysPage(root), address);
     tell_entry(entry, page)
 }

@@ -10,5 +10,5 @@ pub mod Load
 pub mod Reader
 pub mod Sees
 pub mod Compare
-pub mod Marked
+pub mod Examples
 pub mod SmallBoard

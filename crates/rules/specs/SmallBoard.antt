@@ -15,7 +15,7 @@ use Rattle.rules.specs.Entries.{entry-rules}
 use Rattle.rules.specs.Tables.{rootEntry, leafEntry, table-rules}
 use Rattle.rules.specs.Contents.{tracker, processListByte, content-rules}
 use Rattle.rules.specs.Load.{physPage, satpWord, load-rules}
-use Rattle.rules.specs.Marked.{smallBoard, examples}
+use Rattle.rules.specs.Examples.{smallBoard, example-rules}
 
 -- RAM of 16 pages at 0x40000000: the RAM page and the physical page of a use
 unfoldable pub ram : PageRange
@@ -50,7 +50,7 @@ pub record SmallBoard : Type 0 where
   pub owners-pages : pagesOf smallBoard 16 1 ∷ pagesOf smallBoard 16 2 ∷ [] ≡ 13 ∷ 2 ∷ []
 
 pub small-board : SmallBoard
-unfolding ℕ-discrete ram page phys examples load-rules content-rules table-rules entry-rules order-rules space-rules block-rules words lists choices
+unfolding ℕ-discrete ram page phys example-rules load-rules content-rules table-rules entry-rules order-rules space-rules block-rules words lists choices
 small-board = record {
   data-pages = refl;
   table-pages = refl;

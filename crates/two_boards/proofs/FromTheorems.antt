@@ -17,9 +17,9 @@ use Rattle.rules.specs.Sees.{seenFrom, rootOf, processSees}
 use Rattle.laws.specs.Choice.{by-choose, and-both, choose-yes, choose-map}
 use Rattle.demands.specs.Demand2.{sees-what-the-rules-give, sees-exactly, one-owner-one-virtual-page, pages-add-up}
 use Rattle.demands.specs.Demand3.{SameOnBoth, boots-on-larger-ram, same-on-both}
-use Rattle.roots.specs.declared.Root.{Root}
-use Rattle.roots.specs.declared.Root.the-variants.{At}
-use Rattle.roots.specs.Roots.{isProcess, rootFound}
+use Rattle.order_roots.specs.declared.Root.{Root}
+use Rattle.order_roots.specs.declared.Root.the-variants.{At}
+use Rattle.order_roots.specs.Roots.{isProcess, rootFound}
 use Rattle.two_boards.specs.declared.Board.{Board}
 use Rattle.two_boards.specs.Promise.{seenAt, seenAfter, OneBoard, TwoBoards}
 

@@ -16,9 +16,9 @@ use Rattle.rules.specs.Sees.{seesOn, seenFrom, processSees}
 use Rattle.rules.specs.Compare.{compared, Agree}
 use Rattle.demands.specs.Exactly.{Exactly}
 use Rattle.demands.specs.Demand2.{OneOwnerEach, AddUp}
-use Rattle.roots.specs.declared.Root.{Root}
-use Rattle.roots.specs.declared.Root.the-variants.{Nowhere, At}
-use Rattle.roots.specs.Roots.{isProcess}
+use Rattle.order_roots.specs.declared.Root.{Root}
+use Rattle.order_roots.specs.declared.Root.the-variants.{Nowhere, At}
+use Rattle.order_roots.specs.Roots.{isProcess}
 use Rattle.two_boards.specs.declared.Board.{Board}
 use Rattle.two_boards.specs.declared.Boards.{Boards}
 

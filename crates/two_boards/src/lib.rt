@@ -2,7 +2,7 @@
 ghost use mathlib.Core.Path.{_≡_};
 ghost use Rattle.rules.specs.Lent.{imageOf, ramOf};
 ghost use Rattle.two_boards.specs.Promise.{seenAt, OneBoard, TwoBoards};
-use roots::Root;
+use order_roots::Root;
 use types::Answer;
 use types::View;
 
@@ -23,7 +23,7 @@ fn seen_at(root: Root, ram: &[u8], start: u32, address: u32) -> View
 {
     match root {
         Root::Nowhere => View::Absent,
-        Root::At(page) => views::seen_from(ram, start, page, address),
+        Root::At(page) => sv32_views::seen_from(ram, start, page, address),
     }
 }
 
@@ -38,7 +38,7 @@ pub fn boot_one(
 ) -> Board
     ensures { λ r. ⌜ OneBoard (imageOf (now (block .entry)) (now (flash .entry))) (ramOf start (now (ram .entry))) (now (ram .exit)) q address r ⌝ }
 {
-    let root = roots::find_root(block, flash, start, ram.len(), q);
+    let root = order_roots::find_root(block, flash, start, ram.len(), q);
     let answer = loader::load(block, flash, ram, start);
     let seen = seen_at(root, ram, start, address);
     Board { answer, seen }

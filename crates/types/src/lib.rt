@@ -9,6 +9,12 @@ pub const TABLE_ENTRIES: u32 = 1024;
 // The root slot of the kernel's 4 MiB: a root table's last.
 pub const KERNEL_SLOT: u32 = 1023;
 
+// The root slot of a user process's stack.
+pub const STACK_SLOT: u32 = 511;
+
+// The pages at the top of RAM that no load takes: the loader's stack and its guard.
+pub const TOP_PAGES: u32 = 4;
+
 // A RAM page number: RAM page k starts at RAM's start + 4,096 k.
 pub struct RamPage(pub u32);
 

@@ -17,7 +17,7 @@ use Rattle.rules.specs.Contents.{sectionPageByte, dataByte}
 use Rattle.rules.specs.Load.{pageByte, loaded}
 use Rattle.laws.specs.Choice.{by-choose}
 use Rattle.laws.specs.Lists.{Every, every-at, every-append, every-tab, every-gather, tab-length, tab-by, lookup-right}
-use Rattle.placement.specs.Uses.{use-top}
+use Rattle.order_laws.specs.Uses.{use-top}
 use Rattle.accepted.specs.Fits.{Whole}
 use Rattle.writing.specs.Uses.{writeUses, write-length, write-above, afterUse, write-byte, write-same, Wrote, wrote-none, wrote-then, wrote-tab-none, wrote-tab-next, wrote-gather-none, wrote-gather-next}
 

@@ -1,5 +1,5 @@
 use Rattle.rules.specs.Lent.{imageOf, ramOf}
-use Rattle.report.proofs.Laws.{listed-refused, listed-booted}
+use Rattle.report.proofs.Lines.{listed-refused, listed-booted}
 use Rattle.report.proofs.Owned.{booted-kernel}
 use borrow.Author.Needs.{needs}
 use Rattle.report.proofs.load_listing.Statement.{statement}

@@ -4,8 +4,8 @@ use Rattle.rules.specs.Lent.{areaOf, pagesIn}
 use Rattle.rules.specs.Block.{processCount}
 use Rattle.text.specs.Text.{Appended}
 use Rattle.report.specs.Listing.{processLines}
-use Rattle.text.proofs.Laws.{appended-none, appended-length}
-use Rattle.report.proofs.Laws.{lines-none, lines-next}
+use Rattle.text.proofs.Appended.{appended-none, appended-length}
+use Rattle.report.proofs.Lines.{lines-none, lines-next}
 use Rattle.report.proofs.Owned.{pages-owned}
 use native.Mathlib.Omega.{arith}
 use borrow.Author.Needs.{needs}

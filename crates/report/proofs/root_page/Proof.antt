@@ -1,5 +1,5 @@
 use Rattle.rules.specs.Lent.{imageOf}
-use Rattle.roots.specs.declared.Root.the-variants.{Nowhere, At}
+use Rattle.order_roots.specs.declared.Root.the-variants.{Nowhere, At}
 use Rattle.report.proofs.Owned.{root-is}
 use borrow.Author.Needs.{needs}
 use Rattle.report.proofs.root_page.Statement.{statement}

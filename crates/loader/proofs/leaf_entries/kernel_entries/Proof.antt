@@ -1,7 +1,7 @@
 use mathlib.Core.Path.{_∙_}
 use Rattle.notation.specs.Choice.{choose}
-use Rattle.places.proofs.Capped.{uncapped}
-use Rattle.ram_pages.proofs.PageAt.{page-inside}
+use Rattle.order_places.proofs.Capped.{uncapped}
+use Rattle.page_allocator.proofs.PageAt.{page-inside}
 use Rattle.loader.proofs.LeafEntries.{tracker-room, tracker-some, tracker-end, kernel-is}
 use native.Mathlib.Omega.{arith}
 use borrow.Author.Needs.{needs}

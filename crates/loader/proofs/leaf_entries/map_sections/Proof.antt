@@ -1,8 +1,8 @@
 use mathlib.Core.Path.{_≡_, refl}
 use Prim.Native.Nat.{_-_, _≤_}
 use lib.ListN.{length}
-use Rattle.places.proofs.Capped.{uncapped}
-use Rattle.ram_pages.proofs.PageAt.{page-inside}
+use Rattle.order_places.proofs.Capped.{uncapped}
+use Rattle.page_allocator.proofs.PageAt.{page-inside}
 use Rattle.loader.proofs.LeafEntries.{process-room, Mapped, mapped-none, mapped-more, mapped-all}
 use native.Mathlib.Omega.{arith}
 use borrow.Author.Needs.{needs}

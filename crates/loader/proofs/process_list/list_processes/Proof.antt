@@ -2,9 +2,9 @@ use mathlib.Core.Path.{_≡_, refl}
 use Prim.Native.Nat.{_+_, _-_, _*_, _≤_}
 use Rattle.rules.specs.Order.{trackerPages}
 use Rattle.rules.specs.Load.{satpWord}
-use Rattle.placement.specs.Places.{rootPlace}
+use Rattle.order_laws.specs.Places.{rootPlace}
 use Rattle.stores.proofs.Written.{Written, written-none}
-use Rattle.ram_pages.proofs.PageAt.{page-inside}
+use Rattle.page_allocator.proofs.PageAt.{page-inside}
 use Rattle.loader.proofs.ProcessWords.{listByte, root-next, tables-fit, root-fits, satp-is, process-turn, list-end}
 use native.Mathlib.Omega.{arith}
 use borrow.Author.Needs.{needs}

@@ -1,6 +1,6 @@
 use mathlib.Core.Path.{_≡_, refl}
 use Prim.Native.Nat.{_-_, _≤_}
-use Rattle.placement.specs.Places.{userPages, user-pages-none}
+use Rattle.order_laws.specs.Places.{userPages, user-pages-none}
 use Rattle.stores.proofs.Written.{Written, written-none}
 use Rattle.loader.proofs.TrackerBytes.{trackerByte, users-fit, user-fits, track-turn, track-end}
 use native.Mathlib.Omega.{arith}
