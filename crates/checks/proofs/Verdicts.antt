@@ -1,17 +1,23 @@
 -- Laws of the first refusal.
 use mathlib.Core.Path.{_≡_, refl, sym, _∙_}
 use mathlib.Core.Bool.{Bool, true, false}
-use mathlib.Core.List.{List, _∷_}
-use Prim.Native.Nat.{ℕ, zero, suc, _+_, _-_, _/_, _%_, _≤_, _<_}
+use mathlib.Core.List.{List, [], _∷_, _++_}
+use Prim.Native.Nat.{ℕ, zero, suc, _+_, _-_, _/_, _≤_, _<_}
 use native.Mathlib.Numerals.{add-one}
 use native.Mathlib.Omega.{arith}
 use lib.Dec.{eqb}
-use borrow.Author.Tests.{eq-eqb, ne-eqb, eqb-true, ltb-false, not-false}
-use Rattle.types.specs.declared.Verdict.{Verdict}
+use borrow.Author.Tests.{eq-eqb, ne-eqb, ltb-false}
 use Rattle.notation.specs.Choice.{choose}
 use Rattle.laws.specs.Choice.{by-test, choose-yes, choose-no, any-none}
-use Rattle.rules.specs.Refusals.{Check, whole, records, refused, accepted, firstRecord, firstRefusal, ramUnfit, outside, countsOutOfBounds}
-use Rattle.checks.specs.Scan.{InBounds}
+use Rattle.laws.specs.Lists.{Every, _and_}
+use Rattle.types.specs.declared.Area.{Area}
+use Rattle.types.specs.declared.Verdict.{Verdict}
+use Rattle.rules.specs.Lent.{Image, pagesIn}
+use Rattle.rules.specs.Block.{processCount}
+use Rattle.rules.specs.Refusals.{ramUnfit, outside, countsOutOfBounds, ramTooSmall, Check, whole, records, refused, accepted, firstRecord, firstRefusal}
+use Rattle.rules.specs.Refusals.{lentChecks, headerChecks, recordChecks, checks, verdict}
+use Rattle.checks.specs.declared.Scan.the-variants.{Processes, Sections, EntryPoints, Regions}
+use Rattle.checks.specs.Scan.{recordCount, refusalAt, scanOf}
 
 -- A SCAN OF RECORDS k TO n - 1, where f k is the number at record k
 module _ (f : ℕ → ℕ) (rest : Verdict) (k n : ℕ) where
@@ -27,44 +33,82 @@ module _ (f : ℕ → ℕ) (rest : Verdict) (k n : ℕ) where
   unfolding firstRecord
   scan-stop x h e z = let m : n - k ≡ suc (n - (k + 1)) = omega arith in rw (m, e) (sym (choose-no _ _ (ne-eqb (f k) 0 (λ y. z (e ∙ y)))))
 
--- ONE CHECK, THEN THE OTHERS
--- what follows a scan counts where the scan refuses nothing
-scan-then : (f : ℕ → ℕ) (rest : Verdict) (k n : ℕ)
-    → firstRecord f k n rest ≡ choose (eqb (firstRecord f k n accepted .number) 0) rest (firstRecord f k n accepted)
-unfolding firstRecord accepted refused choose
-scan-then f rest k zero = refl
-scan-then f rest k (suc n) = by-test
-    (λ c. choose c (firstRecord f (suc k) n rest) (refused (f k) k)
-    ≡ choose (eqb (choose c (firstRecord f (suc k) n accepted) (refused (f k) k) .number) 0) rest (choose c (firstRecord f (suc k) n accepted) (refused (f k) k)))
+-- SOME CHECKS, THEN OTHERS
+-- the first of two verdicts, or where it has number 0 the second
+abbrev pub firstOf : Verdict → Verdict → Verdict
+firstOf v w = choose (eqb (v .number) 0) w v
+
+scan-then : (f : ℕ → ℕ) (k n : ℕ) (u v w : Verdict) → u ≡ firstOf v w → firstRecord f k n u ≡ firstOf (firstRecord f k n v) w
+unfolding firstRecord refused choose
+scan-then f k zero u v w h = h
+scan-then f k (suc n) u v w h = by-test
+    (λ c. choose c (firstRecord f (suc k) n u) (refused (f k) k) ≡ firstOf (choose c (firstRecord f (suc k) n v) (refused (f k) k)) w)
     (eqb (f k) 0)
-    (λ e. scan-then f rest (suc k) n)
+    (λ e. scan-then f (suc k) n u v w h)
     (λ e. rw e)
 
-module _ (cs : List Check) (n : ℕ) where
-  pub records-pass : (f : ℕ → ℕ) (v : Verdict) → v ≡ firstRecord f 0 n accepted → v .number ≡ 0 → firstRefusal (records n f ∷ cs) ≡ firstRefusal cs
-  unfolding firstRefusal
-  records-pass f v e z = scan-then f (firstRefusal cs) 0 n ∙ rw (← e) (choose-yes _ _ (eq-eqb _ _ z))
+-- the number of a check is not 0, so that a verdict of number 0 refuses nothing; that of a scan is 0 only where it passes
+abbrev NotZero : Check → Type 0
+NotZero (whole n c) = 1 ≤ n
+NotZero (records n f) = Unit
 
-  pub records-stop : (f : ℕ → ℕ) (v : Verdict) → v ≡ firstRecord f 0 n accepted → (v .number ≡ 0 → ⊥) → v ≡ firstRefusal (records n f ∷ cs)
-  unfolding firstRefusal
-  records-stop f v e z = sym (scan-then f (firstRefusal cs) 0 n ∙ rw (← e) (choose-no _ _ (ne-eqb _ _ z)))
+-- THE LAW: the first refusal of two lists of checks is that of the first, or where it has number 0 that of the second
+first-of-both : (xs ys : List Check) → Every NotZero xs → firstRefusal (xs ++ ys) ≡ firstOf (firstRefusal xs) (firstRefusal ys)
+unfolding firstRefusal accepted refused choose
+first-of-both [] ys e = refl
+first-of-both (whole n c ∷ xs) ys e = by-test
+    (λ c. choose c (refused n 0) (firstRefusal (xs ++ ys)) ≡ firstOf (choose c (refused n 0) (firstRefusal xs)) (firstRefusal ys))
+    c
+    (λ _. rw (ne-eqb n 0 (λ z. omega (arith, e .0))))
+    (λ _. first-of-both xs ys (e .1))
+first-of-both (records n f ∷ xs) ys e = scan-then f 0 n _ _ _ (first-of-both xs ys (e .1))
 
-  pub whole-pass : (c : Bool) → c ≡ false → firstRefusal (whole n c ∷ cs) ≡ firstRefusal cs
-  unfolding firstRefusal
-  whole-pass c e = choose-no _ _ e
+-- one check and what the others give
+step : (c : Check) (cs : List Check) (w : Verdict) → NotZero c → firstRefusal cs ≡ w → firstRefusal (c ∷ cs) ≡ firstOf (firstRefusal (c ∷ [])) w
+step c cs w n e = first-of-both (c ∷ []) cs (n and tt) ∙ rw e
 
-  pub whole-stop : (c : Bool) → c ≡ true → refused n 0 ≡ firstRefusal (whole n c ∷ cs)
-  unfolding firstRefusal
-  whole-stop c e = sym (choose-yes _ _ e)
+one-whole : (n : ℕ) (c : Bool) → firstRefusal (whole n c ∷ []) ≡ choose c (refused n 0) accepted
+unfolding firstRefusal
+one-whole n c = refl
 
--- what refusals 1 and 4 leave
-pub in-bounds : (b : List ℕ) (start len : ℕ) → ramUnfit start len ≡ false → countsOutOfBounds b ≡ false → InBounds b len
-unfolding ramUnfit countsOutOfBounds outside
-in-bounds b start len r c =
-    let whole-pages : len % 4096 ≡ 0 = eqb-true _ _ (not-false _ (any-none _ r 0)) in
-    let few-pages : len / 4096 ≤ 4096 = ltb-false _ _ (any-none _ r 1) in
-    let p = any-none _ (any-none _ c 0) in
-    record {
-      ram = omega arith;
-      processes = ltb-false _ _ (p 1);
-    }
+module _ (x : Image) (ram : Area) where
+  pub records-then : firstRefusal (recordChecks x ram)
+      ≡ firstOf (firstRefusal (scanOf Processes x ram ∷ []))
+      (firstOf (firstRefusal (scanOf Sections x ram ∷ []))
+      (firstOf (firstRefusal (scanOf EntryPoints x ram ∷ []))
+      (firstOf (firstRefusal (scanOf Regions x ram ∷ []))
+      (choose (ramTooSmall (x .block) (pagesIn ram .pages)) (refused 12 0) accepted))))
+  unfolding recordChecks recordCount refusalAt
+  records-then = step _ _ _ tt (step _ _ _ tt (step _ _ _ tt (step _ _ _ tt (one-whole 12 _))))
+
+  pub verdict-then : verdict x ram ≡ firstOf (firstRefusal (lentChecks ram)) (firstOf (firstRefusal (headerChecks (x .block))) (firstRefusal (recordChecks x ram)))
+  unfolding verdict checks
+  verdict-then =
+      first-of-both (lentChecks ram) _ (unfold lentChecks in (omega arith) and tt)
+      ∙ rw (first-of-both (headerChecks (x .block)) (recordChecks x ram) (unfold headerChecks in (omega arith) and (omega arith) and (omega arith) and (omega arith) and tt))
+
+-- the test of a verdict that was found: the others count, or it does
+module _ (cs : List Check) (v : Verdict) (e : v ≡ firstRefusal cs) where
+  pub passes : v .number ≡ 0 → eqb (firstRefusal cs .number) 0 ≡ true
+  passes z = rw (← e) (eq-eqb _ 0 z)
+
+  pub refuses : (v .number ≡ 0 → ⊥) → (w : Verdict) → v ≡ firstOf (firstRefusal cs) w
+  refuses z w = rw (← e) (sym (choose-no w v (ne-eqb _ 0 z)))
+
+-- WHAT REFUSALS 1 AND 4 LEAVE, as far as later sums need it
+whole-not-given : (c : Bool) (n : ℕ) (later : Verdict) → choose c (refused (suc n) 0) later .number ≡ 0 → (c ≡ false) × (later .number ≡ 0)
+unfolding choose refused
+whole-not-given true n later e = absurd (omega arith)
+whole-not-given false n later e = (refl, e)
+
+pub few-pages : (ram : Area) (v : Verdict) → v ≡ firstRefusal (lentChecks ram) → v .number ≡ 0 → ram .length / 4096 ≤ 4096
+unfolding lentChecks firstRefusal ramUnfit
+few-pages ram v e z = ltb-false _ _ (any-none _ (whole-not-given _ 0 _ (rw e at z) .0) 1)
+
+pub few-processes : (b : List ℕ) (v : Verdict) → v ≡ firstRefusal (headerChecks b) → v .number ≡ 0 → processCount b ≤ 16
+unfolding headerChecks firstRefusal countsOutOfBounds outside
+few-processes b v e z =
+    let two = whole-not-given _ 1 _ (rw e at z) in
+    let three = whole-not-given _ 2 _ (two .1) in
+    let four = whole-not-given _ 3 _ (three .1) in
+    ltb-false _ _ (any-none _ (any-none _ (four .0) 0) 1)

@@ -1,39 +1,43 @@
 -- DEMAND 1: "Whatever bytes arrive as block, flash and RAM, the loader ends with success or with one refusal of document 01, exactly
 -- when 01 says. A refusal returns number, place and zero counts and leaves RAM untouched."
-use mathlib.Core.Path.{_≡_}
+use mathlib.Core.Path.{_≡_, refl}
 use mathlib.Core.Logic.{_≢_, _↔_}
-use mathlib.Core.List.{List}
 use Prim.Native.Nat.{ℕ, _≤_}
-use lib.ListN.{length}
 use borrow.Author.Tests.{ne-eqb}
+use Rattle.types.specs.declared.Area.{Area}
+use Rattle.types.specs.declared.Verdict.{Verdict}
+use Rattle.types.specs.declared.Answer.{Answer}
+use Rattle.rules.specs.Lent.{Image, Ram, ramArea}
 use Rattle.rules.specs.Refusals.{checks, verdict}
-use Rattle.rules.specs.Load.{boots, answerTo, answer, ramAfter}
+use Rattle.rules.specs.Load.{boots, refusalAnswer, answerOn, answer, ramAfter}
 use Rattle.laws.specs.Choice.{choose-no}
 use Rattle.laws.specs.Lists.{Every}
-use Rattle.demands.specs.Refusal.{Passes, FirstCause, decided, numbered, all-pass, first-cause}
+use Rattle.accepted.specs.Checks.{Passes, FirstCause, verdict-passes, verdict-refuses}
 
-module _ (b : List ℕ) (flash start len : ℕ) where
-  -- number 0 exactly where no cause holds
-  pub boots-where-no-cause-holds : (verdict b flash start len .number ≡ 0) ↔ Every Passes (checks b flash start len)
-  unfolding verdict
-  boots-where-no-cause-holds = all-pass _ _ (decided (checks b flash start len) (numbered b flash start len))
+-- number 0 exactly where no cause holds
+pub boots-where-no-cause-holds : (x : Image) (ram : Area) → (verdict x ram .number ≡ 0) ↔ Every Passes (checks x ram)
+boots-where-no-cause-holds x ram = verdict-passes x ram
 
-  -- else the number is one of 1 to 12, its cause holds at its place, and no earlier cause in 01's order does
-  pub refusal-is-first-cause : verdict b flash start len .number ≢ 0
-      → (1 ≤ verdict b flash start len .number) × (verdict b flash start len .number ≤ 12)
-      × FirstCause (checks b flash start len) (verdict b flash start len .number) (verdict b flash start len .place)
-  unfolding verdict
-  refusal-is-first-cause = first-cause _ _ (decided (checks b flash start len) (numbered b flash start len))
+-- else the number is one of 1 to 12, its cause holds at its place, and no earlier cause in 01's order does
+pub refusal-is-first-cause : (x : Image) (ram : Area) → verdict x ram .number ≢ 0
+    → (1 ≤ verdict x ram .number) × (verdict x ram .number ≤ 12) × FirstCause (checks x ram) (verdict x ram .number) (verdict x ram .place)
+refusal-is-first-cause x ram = verdict-refuses x ram
 
-  -- a refusal's answer has its number, its place and three zero counts
-  pub refusal-answer : verdict b flash start len .number ≢ 0
-      → answer b flash start len
-      ≡ record { number = verdict b flash start len .number; place = verdict b flash start len .place; taken = 0; free = 0; tracker = 0 }
-  unfolding answer answerTo
-  refusal-answer h = choose-no _ _ (ne-eqb _ 0 h)
+-- a refusal's answer has its number, its place and three zero counts
+pub record ZeroCounts (v : Verdict) (a : Answer) : Type 0 where
+  pub number : a .number ≡ v .number
+  pub place : a .place ≡ v .place
+  pub taken : a .taken ≡ 0
+  pub free : a .free ≡ 0
+  pub tracker : a .tracker ≡ 0
+
+pub refusal-answer : (x : Image) (r : Ram) → verdict x (ramArea r) .number ≢ 0 → ZeroCounts (verdict x (ramArea r)) (answer x r)
+unfolding answer answerOn refusalAnswer
+refusal-answer x r h =
+    let e : answer x r ≡ refusalAnswer (verdict x (ramArea r)) = choose-no _ _ (ne-eqb _ 0 h) in
+    rw e (record { number = refl; place = refl; taken = refl; free = refl; tracker = refl })
 
 -- RAM after a refusal is RAM before
-pub refusal-leaves-ram : (b flash : List ℕ) (start : ℕ) (ram : List ℕ) → verdict b (length flash) start (length ram) .number ≢ 0
-    → ramAfter b flash start ram ≡ ram
+pub refusal-leaves-ram : (x : Image) (r : Ram) → verdict x (ramArea r) .number ≢ 0 → ramAfter x r ≡ r .bytes
 unfolding ramAfter boots
-refusal-leaves-ram b flash start ram h = choose-no _ _ (ne-eqb _ 0 h)
+refusal-leaves-ram x r h = choose-no _ _ (ne-eqb _ 0 h)

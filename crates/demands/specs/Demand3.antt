@@ -14,21 +14,25 @@ use Rattle.notation.specs.Choice.{choose}
 use Rattle.notation.specs.Words.{byteOf}
 use Rattle.types.specs.declared.Verdict.{Verdict}
 use Rattle.types.specs.declared.Answer.{Answer}
-use Rattle.rules.specs.Block.{processCount}
+use Rattle.types.specs.declared.Area.{Area}
+use Rattle.rules.specs.Lent.{Image, Ram, ramArea, pagesIn}
+use Rattle.rules.specs.Block.{processCount, sectionCount}
 use Rattle.rules.specs.Space.{Data, Mapping, unmapped, stack, maps, inTracker, kernelPage, mappingAt}
 use Rattle.rules.specs.Order.{order, trackerPages, pagesNeeded}
-use Rattle.rules.specs.Refusals.{Check, whole, records, checks, verdict, regionUnfit, ramTooSmall}
+use Rattle.rules.specs.Refusals.{Check, whole, records, lentChecks, headerChecks, recordChecks, checks, verdict, sectionRefusal}
+use Rattle.rules.specs.Refusals.{blockTooShort, formatUnknown, countsOutOfBounds, layoutNotTight, processUnfit, entryPointOutside, regionUnfit, ramTooSmall}
 use Rattle.rules.specs.Contents.{tracker, processWord, processListByte}
-use Rattle.rules.specs.Load.{boots, answerTo, answer}
-use Rattle.rules.specs.Sees.{byteAt, viewOf, sees, processSees}
+use Rattle.rules.specs.Load.{boots, bootAnswer, answerOn, answer}
+use Rattle.rules.specs.Sees.{byteAt, viewOf, sees, seesOn, processSees}
 use Rattle.rules.specs.Compare.{Compared, everything, rightsOnly, nothing, atSatp, compared, withoutByte, Agree}
 use Rattle.laws.specs.Choice.{by-test, by-choose, choose-yes, and-both}
-use Rattle.laws.specs.Lists.{Every, every-at, every-map}
-use Rattle.demands.specs.Refusal.{Passes, Refuses, FirstCause, not-both}
-use Rattle.demands.specs.Demand1.{boots-where-no-cause-holds, refusal-is-first-cause}
-use Rattle.demands.specs.Counting.{needed-larger, tracker-pages-le, needed-less-tracker}
+use Rattle.laws.specs.Lists.{Every, _and_, every-at}
+use Rattle.accepted.specs.Checks.{Passes, Refuses, FirstCause, not-both}
+use Rattle.accepted.specs.NoCause.{NoCause, no-cause}
+use Rattle.accepted.specs.Tracker.{tracker-pages}
+use Rattle.accepted.specs.Counting.{needed-larger, tracker-pages-le, needed-less-tracker}
+use Rattle.demands.specs.Demand1.{refusal-is-first-cause}
 use Rattle.demands.specs.Mappings.{by-mapping, in-tracker-first, in-tracker-last}
-use Rattle.demands.specs.Loaded.{tracker-pages}
 use Rattle.demands.specs.Demand2.{sees-what-the-rules-give}
 
 -- BOOTS ON ANY LARGER RAM
@@ -43,57 +47,35 @@ region-only : (c : ℕ → Bool) (m : ℕ) → Only (records m (λ i. choose (c 
 region-only c m n place h _ no-11 r =
     by-choose (λ z. z ≡ n → ⊥) (c place) 11 0 (λ _ e. no-11 (sym e)) (λ _ e. omega arith) (r .1)
 
-only-1-and-11 : (b : List ℕ) (flash start start′ len len′ : ℕ) → len / 4096 ≤ len′ / 4096
-    → Every Passes (checks b flash start len) → Every Only (checks b flash start′ len′)
-unfolding checks ramTooSmall
-only-1-and-11 b flash start start′ len len′ l ps =
-    let e : Every Only (checks b flash start len) = every-map Passes Only (checks b flash start len) passes-only ps in
-    let enough : pagesNeeded b (len / 4096) ≤ len / 4096 = ltb-false _ _ (ps .1 .1 .1 .1 .1 .1 .1 .1 .1 .0) in
-    let twelve : ramTooSmall b len′ ≡ false = le-ltb _ _ (needed-larger b (len / 4096) (len′ / 4096) l enough) in (
-      (λ n place h no-1 no-11 r. no-1 (r .1)),
-      (
-        e .1 .0,
-        (
-          e .1 .1 .0,
-          (
-            e .1 .1 .1 .0,
-            (
-              e .1 .1 .1 .1 .0,
-              (
-                e .1 .1 .1 .1 .1 .0,
-                (
-                  e .1 .1 .1 .1 .1 .1 .0,
-                  (
-                    e .1 .1 .1 .1 .1 .1 .1 .0,
-                    (
-                      region-only (regionUnfit b start′ len′) _,
-                      (passes-only (whole 12 (ramTooSmall b len′)) twelve, tt),
-                    ),
-                  ),
-                ),
-              ),
-            ),
-          ),
-        ),
-      ),
-    )
+-- what passes for one RAM draws no other number for a larger one
+only-1-and-11 : (x : Image) (ram ram′ : Area) → pagesIn ram .pages ≤ pagesIn ram′ .pages → NoCause x ram → Every Only (checks x ram′)
+unfolding checks lentChecks headerChecks recordChecks ramTooSmall sectionRefusal choose
+only-1-and-11 x ram ram′ l ok =
+    let b : List ℕ = x .block in
+    let enough : pagesNeeded b (pagesIn ram .pages) ≤ pagesIn ram .pages = ltb-false _ _ (ok .room) in
+    (λ n place h no-1 no-11 r. no-1 (r .1))
+    and passes-only (whole 2 (blockTooShort b)) (ok .block-long)
+    and passes-only (whole 3 (formatUnknown b)) (ok .format-known)
+    and passes-only (whole 4 (countsOutOfBounds b)) (ok .counts-in-bounds)
+    and passes-only (whole 5 (layoutNotTight b)) (ok .layout-tight)
+    and passes-only (records (processCount b) (λ i. choose (processUnfit b i) 6 0)) (λ i h. rw (ok .process-fit i h))
+    and passes-only (records (sectionCount b) (sectionRefusal b (length (x .flash)))) (λ n h. rw (ok .section-fit n h, ok .section-placed n h, ok .section-in-flash n h))
+    and passes-only (records (processCount b) (λ i. choose (entryPointOutside b i) 10 0)) (λ i h. rw (ok .entry-point-inside i h))
+    and region-only (regionUnfit b ram′) _
+    and passes-only (whole 12 (ramTooSmall b (pagesIn ram′ .pages))) (le-ltb _ _ (needed-larger b (pagesIn ram .pages) (pagesIn ram′ .pages) l enough))
+    and tt
 
-pub boots-on-larger-ram : (b flash : List ℕ) (start start′ : ℕ) (ram ram′ : List ℕ)
-    → boots b flash start ram ≡ true → length ram / 4096 ≤ length ram′ / 4096
-    → verdict b (length flash) start′ (length ram′) .number ≢ 1 → verdict b (length flash) start′ (length ram′) .number ≢ 11
-    → boots b flash start′ ram′ ≡ true
+pub boots-on-larger-ram : (x : Image) (r r′ : Ram) → boots x r ≡ true → pagesIn (ramArea r) .pages ≤ pagesIn (ramArea r′) .pages
+    → verdict x (ramArea r′) .number ≢ 1 → verdict x (ramArea r′) .number ≢ 11 → boots x r′ ≡ true
 unfolding boots
-boots-on-larger-ram b flash start start′ ram ram′ e l no-1 no-11 =
-    let v : Verdict = verdict b (length flash) start′ (length ram′) in
-    let ps : Every Passes (checks b (length flash) start (length ram)) = boots-where-no-cause-holds b (length flash) start (length ram) .0 (eqb-true _ 0 e) in
+boots-on-larger-ram x r r′ e l no-1 no-11 =
+    let v : Verdict = verdict x (ramArea r′) in
     elim (ℕ-discrete (v .number) 0) [
       | yes z ↦ eq-eqb (v .number) 0 z
       | no z ↦
-          let r : (1 ≤ v .number) × (v .number ≤ 12) × FirstCause (checks b (length flash) start′ (length ram′)) (v .number) (v .place)
-          = refusal-is-first-cause b (length flash) start′ (length ram′) z in
-          absurd (every-at Only (checks b (length flash) start′ (length ram′)) (r .2 .step)
-          (only-1-and-11 b (length flash) start start′ (length ram) (length ram′) l ps) (r .2 .there)
-          (v .number) (v .place) (r .0) no-1 no-11 (r .2 .cause))
+          let c : (1 ≤ v .number) × (v .number ≤ 12) × FirstCause (checks x (ramArea r′)) (v .number) (v .place) = refusal-is-first-cause x (ramArea r′) z in
+          absurd (every-at Only (checks x (ramArea r′)) (c .2 .step)
+          (only-1-and-11 x (ramArea r) (ramArea r′) l (no-cause x (ramArea r) (eqb-true _ 0 e))) (c .2 .there) (v .number) (v .place) (c .0) no-1 no-11 (c .2 .cause))
     ]
 
 -- THE SAME ON BOTH
@@ -106,7 +88,7 @@ same-rights : (f g : Data → ℕ) (s : Mapping) → withoutByte (viewOf f s) �
 unfolding withoutByte viewOf
 same-rights f g unmapped = refl
 same-rights f g stack = refl
-same-rights f g (maps d w x u) = refl
+same-rights f g (maps d t) = refl
 
 same-word : (b : List ℕ) (s s′ : ℕ → ℕ) (q w : ℕ) → eqb w 0 ≡ false → processWord b s q w ≡ processWord b s′ q w
 unfolding processWord
@@ -126,63 +108,59 @@ same-list b s s′ a h e =
     (ltb k (12 * processCount b)) (λ _ z. rw (same-word b s s′ (k / 12 + 1) (k / 4 % 3) z)) (λ _ _. refl) none-here
 
 -- off the tracker and the satp words, the byte depends on no board
-same-view : (b flash track track′ : List ℕ) (s s′ : ℕ → ℕ) (T q a : ℕ) → inTracker T (a / 4096) ≡ false → atSatp b a ≡ false
-    → viewOf (byteAt b flash track s a) (mappingAt b T q (a / 4096)) ≡ viewOf (byteAt b flash track′ s′ a) (mappingAt b T q (a / 4096))
+same-view : (x : Image) (track track′ : List ℕ) (s s′ : ℕ → ℕ) (T q a : ℕ) → inTracker T (a / 4096) ≡ false → atSatp (x .block) a ≡ false
+    → viewOf (byteAt x track s a) (mappingAt (x .block) T q (a / 4096)) ≡ viewOf (byteAt x track′ s′ a) (mappingAt (x .block) T q (a / 4096))
 unfolding viewOf byteAt
-same-view b flash track track′ s s′ T q a no-tracker no-satp =
-    by-mapping (λ m. viewOf (byteAt b flash track s a) m ≡ viewOf (byteAt b flash track′ s′ a) m) b T q (a / 4096)
-    refl (λ _ _. refl) (λ _ _ _ _. refl) (λ _ _ _. refl) (λ _. refl) (λ e. cc) (λ e. rw (same-list b s s′ a e no-satp))
+same-view x track track′ s s′ T q a no-tracker no-satp =
+    by-mapping (λ m. viewOf (byteAt x track s a) m ≡ viewOf (byteAt x track′ s′ a) m) (x .block) T q (a / 4096)
+    refl (λ _ _. refl) (λ _ _ _ _. refl) (λ _ _ _. refl) (λ _. refl) (λ e. cc) (λ e. rw (same-list (x .block) s s′ a e no-satp))
 
 wider : (T T′ v : ℕ) → T ≤ T′ → inTracker T v ≡ true → inTracker T′ v ≡ true
 unfolding inTracker
 wider T T′ v l e =
     and-both (le-leb 0xFFF40 v (in-tracker-first T v e)) (lt-ltb v (0xFFF40 + T′) (omega (arith, in-tracker-last T v e)))
 
-agree : (b flash track track′ : List ℕ) (s s′ : ℕ → ℕ) (T T′ q a : ℕ) → T ≤ T′
-    → Agree (compared b T T′ a)
-    (viewOf (byteAt b flash track s a) (mappingAt b T q (a / 4096)))
-    (viewOf (byteAt b flash track′ s′ a) (mappingAt b T′ q (a / 4096)))
+agree : (x : Image) (track track′ : List ℕ) (s s′ : ℕ → ℕ) (T T′ q a : ℕ) → T ≤ T′
+    → Agree (compared (x .block) T T′ a)
+    (viewOf (byteAt x track s a) (mappingAt (x .block) T q (a / 4096)))
+    (viewOf (byteAt x track′ s′ a) (mappingAt (x .block) T′ q (a / 4096)))
 unfolding compared
-agree b flash track track′ s s′ T T′ q a l =
+agree x track track′ s s′ T T′ q a l =
     let v : ℕ = a / 4096 in
-    let f : Data → ℕ = byteAt b flash track s a in
-    let g : Data → ℕ = byteAt b flash track′ s′ a in
-    let P : Compared → Type 0 = λ c. Agree c (viewOf f (mappingAt b T q v)) (viewOf g (mappingAt b T′ q v)) in
+    let f : Data → ℕ = byteAt x track s a in
+    let g : Data → ℕ = byteAt x track′ s′ a in
+    let P : Compared → Type 0 = λ c. Agree c (viewOf f (mappingAt (x .block) T q v)) (viewOf g (mappingAt (x .block) T′ q v)) in
     by-choose P (inTracker T v) rightsOnly _
-    (λ e. rw (same-mapping b T T′ q v (e ∙ sym (wider T T′ v l e))) (same-rights f g (mappingAt b T′ q v)))
+    (λ e. rw (same-mapping (x .block) T T′ q v (e ∙ sym (wider T T′ v l e))) (same-rights f g (mappingAt (x .block) T′ q v)))
     (λ e. by-choose P (inTracker T′ v) nothing _ (λ _. tt)
-    (λ e′. by-choose P (atSatp b a) rightsOnly everything
-    (λ _. rw (same-mapping b T T′ q v (e ∙ sym e′)) (same-rights f g (mappingAt b T′ q v)))
-    (λ n. rw (same-mapping b T T′ q v (e ∙ sym e′)) (same-view b flash track track′ s s′ T′ q a e′ n))))
+    (λ e′. by-choose P (atSatp (x .block) a) rightsOnly everything
+    (λ _. rw (same-mapping (x .block) T T′ q v (e ∙ sym e′)) (same-rights f g (mappingAt (x .block) T′ q v)))
+    (λ n. rw (same-mapping (x .block) T T′ q v (e ∙ sym e′)) (same-view x track track′ s s′ T′ q a e′ n))))
 
 -- the same block and flash on a RAM and on a new RAM with as many pages or more
-pub record SameOnBoth (b flash : List ℕ) (start start′ : ℕ) (ram ram′ : List ℕ) : Type 0 where
+pub record SameOnBoth (x : Image) (r r′ : Ram) : Type 0 where
   -- every process sees the same at every 32-bit address, in all that is compared there
-  pub views : (q a : ℕ) → 1 ≤ q → q ≤ processCount b → a < 0x1_0000_0000
-      → Agree (compared b (trackerPages b (length ram / 4096)) (trackerPages b (length ram′ / 4096)) a)
-      (processSees b flash start ram q a) (processSees b flash start′ ram′ q a)
+  pub views : (q a : ℕ) → 1 ≤ q → q ≤ processCount (x .block) → a < 0x1_0000_0000
+      → Agree (compared (x .block) (trackerPages (x .block) (pagesIn (ramArea r) .pages)) (trackerPages (x .block) (pagesIn (ramArea r′) .pages)) a)
+      (processSees x r q a) (processSees x r′ q a)
   -- pages taken less tracker pages is the same number in both answers
-  pub pages : answer b (length flash) start (length ram) .taken - answer b (length flash) start (length ram) .tracker
-      ≡ answer b (length flash) start′ (length ram′) .taken - answer b (length flash) start′ (length ram′) .tracker
+  pub pages : answer x r .taken - answer x r .tracker ≡ answer x r′ .taken - answer x r′ .tracker
 
-taken-less-tracker : (b : List ℕ) (flash start len : ℕ) → eqb (verdict b flash start len .number) 0 ≡ true
-    → answer b flash start len .taken - answer b flash start len .tracker ≡ length (order b 0)
-unfolding answer answerTo
-taken-less-tracker b flash start len e =
-    ap (λ (a : Answer). a .taken - a .tracker) (choose-yes _ _ e) ∙ needed-less-tracker b (len / 4096)
+taken-less-tracker : (x : Image) (r : Ram) → boots x r ≡ true → answer x r .taken - answer x r .tracker ≡ length (order (x .block) 0)
+unfolding boots answer answerOn bootAnswer
+taken-less-tracker x r e = ap (λ (a : Answer). a .taken - a .tracker) (choose-yes _ _ e) ∙ needed-less-tracker (x .block) (pagesIn (ramArea r) .pages)
 
-pub same-on-both : (b flash : List ℕ) (start start′ : ℕ) (ram ram′ : List ℕ)
-    → boots b flash start ram ≡ true → boots b flash start′ ram′ ≡ true → length ram / 4096 ≤ length ram′ / 4096
-    → SameOnBoth b flash start start′ ram ram′
-unfolding sees boots
-same-on-both b flash start start′ ram ram′ e e′ l = record {
+pub same-on-both : (x : Image) (r r′ : Ram) → boots x r ≡ true → boots x r′ ≡ true → pagesIn (ramArea r) .pages ≤ pagesIn (ramArea r′) .pages
+    → SameOnBoth x r r′
+unfolding seesOn sees
+same-on-both x r r′ e e′ l = record {
   views = λ q a lo hi h.
       rw (
-        sees-what-the-rules-give b flash start ram e q a lo hi h .0,
-        sees-what-the-rules-give b flash start′ ram′ e′ q a lo hi h .0,
-        tracker-pages b (length ram / 4096),
-        tracker-pages b (length ram′ / 4096),
+        sees-what-the-rules-give x r e q a lo hi h .0,
+        sees-what-the-rules-give x r′ e′ q a lo hi h .0,
+        tracker-pages (x .block) (pagesIn (ramArea r) .pages),
+        tracker-pages (x .block) (pagesIn (ramArea r′) .pages),
       )
-      (agree b flash _ _ _ _ _ _ q a (tracker-pages-le b (length ram / 4096) (length ram′ / 4096) l));
-  pages = taken-less-tracker b (length flash) start (length ram) e ∙ sym (taken-less-tracker b (length flash) start′ (length ram′) e′);
+      (agree x _ _ _ _ _ _ q a (tracker-pages-le (x .block) (pagesIn (ramArea r) .pages) (pagesIn (ramArea r′) .pages) l));
+  pages = taken-less-tracker x r e ∙ sym (taken-less-tracker x r′ e′);
 }

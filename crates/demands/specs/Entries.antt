@@ -1,6 +1,6 @@
 -- An entry reads as it was written.
 use mathlib.Core.Path.{_≡_, refl}
-use mathlib.Core.Bool.{Bool, true}
+use mathlib.Core.Bool.{true}
 use Prim.Native.Nat.{ℕ, _+_, _*_, _/_, _%_, _≤_, _<_}
 use native.Mathlib.Omega.{arith}
 use borrow.Author.Tests.{eq-eqb, ne-eqb}
@@ -8,34 +8,32 @@ use Rattle.notation.specs.Choice.{choose}
 use Rattle.types.specs.declared.Rights.{Rights}
 use Rattle.types.specs.declared.Entry.the-variants.{Absent, Reserved, Pointer, Page}
 use Rattle.rules.specs.Entries.{absentEntry, reservedEntry, pointerEntry, pageEntry, rightsIn, decode}
-use Rattle.laws.specs.Counts.{one, one-le, choose-times}
+use Rattle.laws.specs.Counts.{one, one-yes, one-le, choose-times}
 use Rattle.laws.specs.Words.{bit-is}
 
--- the rights of a page that the loader maps
-abbrev pub readable : Bool → Bool → Bool → Rights
-readable w x u = record { read = true; write = w; execute = x; user = u }
-
 -- an entry as its page number and its flags
-pub page-entry-flags : (P : ℕ) (w x u : Bool) → pageEntry P w x u ≡ 1024 * P + (3 + 4 * one w + 8 * one x + 16 * one u)
+pub page-entry-flags : (P : ℕ) (t : Rights) → pageEntry P t ≡ 1024 * P + (1 + 2 * one (t .read) + 4 * one (t .write) + 8 * one (t .execute) + 16 * one (t .user))
 unfolding pageEntry
-page-entry-flags P w x u = omega (arith, choose-times w 4, choose-times x 8, choose-times u 16)
+page-entry-flags P t = omega (arith, choose-times (t .read) 2, choose-times (t .write) 4, choose-times (t .execute) 8, choose-times (t .user) 16)
 
-pub decode-page : (P : ℕ) (w x u : Bool) → decode (pageEntry P w x u) ≡ Page (readable w x u) (record { 0 = P })
+-- a readable page
+pub decode-page : (P : ℕ) (t : Rights) → t .read ≡ true → decode (pageEntry P t) ≡ Page t (record { 0 = P })
 unfolding decode rightsIn choose
-decode-page P w x u =
-    let fw : one w ≤ 1 = one-le w in
-    let fx : one x ≤ 1 = one-le x in
-    let fu : one u ≤ 1 = one-le u in
-    let e : ℕ = pageEntry P w x u in
-    let f : e ≡ 1024 * P + (3 + 4 * one w + 8 * one x + 16 * one u) = page-entry-flags P w x u in
+decode-page P t readable =
+    let fr : one (t .read) ≡ 1 = one-yes readable in
+    let fw : one (t .write) ≤ 1 = one-le (t .write) in
+    let fx : one (t .execute) ≤ 1 = one-le (t .execute) in
+    let fu : one (t .user) ≤ 1 = one-le (t .user) in
+    let e : ℕ = pageEntry P t in
+    let f : e ≡ 1024 * P + (1 + 2 * one (t .read) + 4 * one (t .write) + 8 * one (t .execute) + 16 * one (t .user)) = page-entry-flags P t in
     let p : e / 1024 ≡ P = omega arith in
     rw (
       ne-eqb (e % 2) 0 (λ z. omega arith),
       ne-eqb (e / 2 % 8) 0 (λ z. omega arith),
-      bit-is e 2 true (omega arith),
-      bit-is e 4 w (omega arith),
-      bit-is e 8 x (omega arith),
-      bit-is e 16 u (omega arith),
+      bit-is e 2 (t .read) (omega arith),
+      bit-is e 4 (t .write) (omega arith),
+      bit-is e 8 (t .execute) (omega arith),
+      bit-is e 16 (t .user) (omega arith),
       p,
     )
 
@@ -55,8 +53,8 @@ unfolding decode reservedEntry choose
 decode-reserved = refl
 
 -- an entry of a page number below 2^20 is a word
-pub page-entry-word : (P : ℕ) (w x u : Bool) → P < 0x10_0000 → pageEntry P w x u < 0x1_0000_0000
-page-entry-word P w x u h = omega (arith, page-entry-flags P w x u, one-le w, one-le x, one-le u)
+pub page-entry-word : (P : ℕ) (t : Rights) → P < 0x10_0000 → pageEntry P t < 0x1_0000_0000
+page-entry-word P t h = omega (arith, page-entry-flags P t, one-le (t .read), one-le (t .write), one-le (t .execute), one-le (t .user))
 
 pub pointer-entry-word : (P : ℕ) → P < 0x10_0000 → pointerEntry P < 0x1_0000_0000
 unfolding pointerEntry

@@ -6,84 +6,89 @@ use mathlib.Core.List.{List}
 use mathlib.Core.Option.{some}
 use mathlib.Core.Bool.{Bool, true, false, not, _&&_}
 use Prim.Native.Nat.{ℕ, zero, suc, _+_, _-_, _*_, _/_, _≤_, _<_}
+use native.Mathlib.Decide.{ℕ-discrete}
 use native.Mathlib.Numerals.{add-one}
 use native.Mathlib.Omega.{arith}
 use lib.ListN.{length, getD}
 use lib.Dec.{eqb, leb, ltb}
 use borrow.Author.Tests.{eq-eqb, ne-eqb, le-leb, lt-leb, lt-ltb, le-ltb, ltb-false, ltb-true, leb-true}
 use Rattle.notation.specs.Choice.{choose}
+use Rattle.types.specs.declared.Area.{Area}
+use Rattle.types.specs.declared.PageRange.{PageRange}
 use Rattle.types.specs.declared.View.{View}
 use Rattle.types.specs.declared.View.the-variants as S
-use Rattle.rules.specs.Block.{processCount, regionCount, sectionsOf, sectionRecord, address, size, sectionEnd, firstPage, lastPage, flashOffset, noCopy, regionPages, ioPagesOf, ioPages}
-use Rattle.rules.specs.Refusals.{ramUnfit, regionUnfit}
-use Rattle.rules.specs.Space.{trackerPage, processList, blockCopy, Mapping, unmapped, stack, maps, sectionMapping, hasPage, inTracker, kernelPage, inStack, userPage, mappingAt}
+use Rattle.rules.specs.Lent.{Image, pagesIn}
+use Rattle.rules.specs.Block.{stackPages, stackFirst, processCount, regionCount, sectionsOf, sectionRecord, address, size, sectionEnd, firstPage, lastPage, flashOffset, noCopy, regionPages, ioPagesOf, ioPages}
+use Rattle.rules.specs.Refusals.{ramUnfit, rangeFirst, rangeLast, regionUnfit}
+use Rattle.rules.specs.Space.{trackerPage, processList, blockCopy, Mapping, unmapped, stack, maps, sectionRights, kernelRead, kernelWrite, sectionMapping, hasPage, inTracker, kernelPage, inStack, userPage, mappingAt}
 use Rattle.rules.specs.Order.{pagesFor, trackerPages, owner, useOf}
 use Rattle.rules.specs.Contents.{tracker, processListByte}
 use Rattle.rules.specs.Load.{satpWord}
-use Rattle.rules.specs.Sees.{sectionByte, byteAt, viewOf, sees, sectionRights, sectionView}
+use Rattle.rules.specs.Sees.{sectionByte, byteAt, viewOf, sees, seesOn, sectionView}
 use Rattle.laws.specs.Choice.{false-not-true, by-choose, and-both, and-left, and-right, and-not-left, and-not-right, choose-yes, choose-no, any-none}
 use Rattle.laws.specs.Counts.{sum-none}
-use Rattle.demands.specs.NoCause.{NoCause}
+use Rattle.accepted.specs.NoCause.{NoCause}
+use Rattle.accepted.specs.Sections.{section-at-page, page-from, page-to}
+use Rattle.accepted.specs.Tracker.{tracker-pages, tracker-byte, tracker-io}
 use Rattle.demands.specs.Mappings.{in-stack-slot, by-mapping}
-use Rattle.demands.specs.Sections.{section-page}
-use Rattle.demands.specs.Loaded.{tracker-pages, tracker-byte, tracker-io}
-use Rattle.demands.specs.Entries.{readable}
 
--- v is what process q is to see at address a, on RAM of N pages from physical page `base` on. Its sections are its own and the kernel's
-pub record Exactly (b flash : List ℕ) (base N q a : ℕ) (v : View) : Type 0 where
+-- v is what process q is to see at address a, where RAM has these pages. Its sections are its own and the kernel's
+pub record Exactly (x : Image) (ram : PageRange) (q a : ℕ) (v : View) : Type 0 where
   -- byte k of section j of process p
-  pub section : (p j k : ℕ) → (p ≡ q) ⊎ (p ≡ 1) → j < sectionsOf b p → k < size b (sectionRecord b p j) → a ≡ address b (sectionRecord b p j) + k
-      → v ≡ sectionView b flash p (sectionRecord b p j) k
+  pub section : (p j k : ℕ) → (p ≡ q) ⊎ (p ≡ 1) → j < sectionsOf (x .block) p → k < size (x .block) (sectionRecord (x .block) p j) → a ≡ address (x .block) (sectionRecord (x .block) p j) + k
+      → v ≡ sectionView x p (sectionRecord (x .block) p j) k
   -- zero around it: on its pages, before it and after it
-  pub around : (p j : ℕ) → (p ≡ q) ⊎ (p ≡ 1) → j < sectionsOf b p → hasPage b (a / 4096) (sectionRecord b p j) ≡ true
-      → (a < address b (sectionRecord b p j)) ⊎ (sectionEnd b (sectionRecord b p j) ≤ a)
-      → v ≡ S.Page (sectionRights b p (sectionRecord b p j)) 0
+  pub around : (p j : ℕ) → (p ≡ q) ⊎ (p ≡ 1) → j < sectionsOf (x .block) p → hasPage (x .block) (a / 4096) (sectionRecord (x .block) p j) ≡ true
+      → (a < address (x .block) (sectionRecord (x .block) p j)) ⊎ (sectionEnd (x .block) (sectionRecord (x .block) p j) ≤ a)
+      → v ≡ S.Page (sectionRights (x .block) p (sectionRecord (x .block) p j)) 0
   -- the stack reservation of a user process
-  pub stack : q ≢ 1 → inStack (a / 4096) ≡ true → v ≡ S.Reserved
+  pub stack : q ≢ 1 → inStack (x .block) q (a / 4096) ≡ true → v ≡ S.Reserved
   -- the kernel's own mapping, in every process: the block copy, the tracker (owners of RAM pages rising, then zero for the I/O pages and
   -- behind them), the process list
-  pub block-copy : (k : ℕ) → k < 4096 → a ≡ 0xFFF0_0000 + k → v ≡ S.Page (readable false false false) (getD b k 0)
-  pub tracker-ram : (k : ℕ) → k < N → a ≡ 0xFFF4_0000 + k → v ≡ S.Page (readable true false false) (owner (useOf b N k))
-  pub tracker-rest : (k : ℕ) → N ≤ k → k < 4096 * trackerPages b N → a ≡ 0xFFF4_0000 + k → v ≡ S.Page (readable true false false) 0
-  pub process-list : (k : ℕ) → k < 4096 → a ≡ 0xFFF8_0000 + k → v ≡ S.Page (readable false false false) (processListByte b (satpWord b base N) k)
+  pub block-copy : (k : ℕ) → k < 4096 → a ≡ 0xFFF0_0000 + k → v ≡ S.Page kernelRead (getD (x .block) k 0)
+  pub tracker-ram : (k : ℕ) → k < ram .pages → a ≡ 0xFFF4_0000 + k → v ≡ S.Page kernelWrite (owner (useOf (x .block) (ram .pages) k))
+  pub tracker-rest : (k : ℕ) → ram .pages ≤ k → k < 4096 * trackerPages (x .block) (ram .pages) → a ≡ 0xFFF4_0000 + k → v ≡ S.Page kernelWrite 0
+  pub process-list : (k : ℕ) → k < 4096 → a ≡ 0xFFF8_0000 + k → v ≡ S.Page kernelRead (processListByte (x .block) (satpWord (x .block) ram) k)
   -- and nothing else
-  pub nothing-else : ((p j : ℕ) → (p ≡ q) ⊎ (p ≡ 1) → j < sectionsOf b p → hasPage b (a / 4096) (sectionRecord b p j) ≡ false)
-      → (q ≢ 1 → inStack (a / 4096) ≡ false) → a / 4096 ≢ 0xFFF00 → inTracker (trackerPages b N) (a / 4096) ≡ false → a / 4096 ≢ 0xFFF80
+  pub nothing-else : ((p j : ℕ) → (p ≡ q) ⊎ (p ≡ 1) → j < sectionsOf (x .block) p → hasPage (x .block) (a / 4096) (sectionRecord (x .block) p j) ≡ false)
+      → (q ≢ 1 → inStack (x .block) q (a / 4096) ≡ false) → a / 4096 ≢ 0xFFF00 → inTracker (trackerPages (x .block) (ram .pages)) (a / 4096) ≡ false → a / 4096 ≢ 0xFFF80
       → v ≡ S.Absent
 
 -- 01: at most 4,096 I/O pages in all
-io-pages-few : (b : List ℕ) (flash start len : ℕ) → NoCause b flash start len → ioPages b ≤ 4096
+io-pages-few : (x : Image) (ram : Area) → NoCause x ram → ioPages (x .block) ≤ 4096
 unfolding ioPages ioPagesOf regionUnfit
-io-pages-few b flash start len ok = go (regionCount b) (λ i h. ltb-false 4096 _ (any-none _ (ok .region i h) 5))
+io-pages-few x ram ok = go (regionCount (x .block)) (λ i h. ltb-false 4096 _ (any-none _ (ok .region-fit i h) 5))
   where
-    go : (n : ℕ) → ((i : ℕ) → i < n → ioPagesOf b (i + 1) ≤ 4096) → ioPagesOf b n ≤ 4096
-    go zero h = omega (arith, sum-none (regionPages b))
+    go : (n : ℕ) → ((i : ℕ) → i < n → ioPagesOf (x .block) (i + 1) ≤ 4096) → ioPagesOf (x .block) n ≤ 4096
+    go zero h = omega (arith, sum-none (regionPages (x .block)))
     go (suc n) h = rw add-one at (h n (omega arith))
 
 -- so the tracker has at most two pages, and ends below the process list
-pub tracker-two : (b : List ℕ) (flash start len : ℕ) → NoCause b flash start len → trackerPages b (len / 4096) ≤ 2
+pub tracker-two : (x : Image) (ram : Area) → NoCause x ram → trackerPages (x .block) (pagesIn ram .pages) ≤ 2
 unfolding trackerPages pagesFor ramUnfit
-tracker-two b flash start len ok =
-    let few : len / 4096 ≤ 4096 = ltb-false _ _ (any-none _ (ok .ram) 1) in
-    omega (arith, io-pages-few b flash start len ok)
+tracker-two x ram ok =
+    let few : ram .length / 4096 ≤ 4096 = ltb-false _ _ (any-none _ (ok .ram-fit) 1) in
+    omega (arith, io-pages-few x ram ok)
 
 -- and it holds a byte for each RAM page
 tracker-holds : (b : List ℕ) (N k : ℕ) → k < N → k < 4096 * trackerPages b N
 unfolding trackerPages pagesFor
 tracker-holds b N k h = omega arith
 
-section-byte-in : (b flash : List ℕ) (n k : ℕ) → k < size b n
-    → sectionByte b flash n (address b n + k) ≡ choose (noCopy b n) 0 (getD flash (flashOffset b n + k) 0)
+section-byte-in : (x : Image) (n k : ℕ) → k < size (x .block) n
+    → sectionByte x n (address (x .block) n + k) ≡ choose (noCopy (x .block) n) 0 (getD (x .flash) (flashOffset (x .block) n + k) 0)
 unfolding sectionByte sectionEnd
-section-byte-in b flash n k h =
+section-byte-in x n k h =
+    let b : List ℕ = x .block in
     let d : address b n + k - address b n ≡ k = omega arith in
     let i : (leb (address b n) (address b n + k) && ltb (address b n + k) (address b n + size b n)) ≡ true
     = and-both (le-leb (address b n) (address b n + k) (omega arith)) (lt-ltb (address b n + k) (address b n + size b n) (omega arith)) in
     ap (choose (noCopy b n) 0) (choose-yes _ _ i ∙ rw d)
 
-section-byte-around : (b flash : List ℕ) (n a : ℕ) → (a < address b n) ⊎ (sectionEnd b n ≤ a) → sectionByte b flash n a ≡ 0
+section-byte-around : (x : Image) (n a : ℕ) → (a < address (x .block) n) ⊎ (sectionEnd (x .block) n ≤ a) → sectionByte x n a ≡ 0
 unfolding sectionByte
-section-byte-around b flash n a out =
+section-byte-around x n a out =
+    let b : List ℕ = x .block in
     let e : (leb (address b n) a && ltb a (sectionEnd b n)) ≡ false = elim out [
       | inl before ↦ and-not-left _ (lt-leb (address b n) a before)
       | inr after ↦ and-not-right (leb (address b n) a) (le-ltb a (sectionEnd b n) after)
@@ -97,19 +102,19 @@ has-page-in b n k h =
     (le-leb ((address b n + k) / 4096) ((address b n + size b n - 1) / 4096) (omega arith))
 
 -- WHAT STANDS where the stack and the kernel's own pages are
-stack-page : (b : List ℕ) (T q v : ℕ) → q ≢ 1 → inStack v ≡ true → mappingAt b T q v ≡ stack
+stack-page : (b : List ℕ) (T q v : ℕ) → q ≢ 1 → inStack b q v ≡ true → mappingAt b T q v ≡ stack
 unfolding mappingAt userPage choose
-stack-page b T q v user e = rw (ne-eqb (v / 1024) 1023 (λ z. omega (arith, in-stack-slot v e)), ne-eqb q 1 user, e)
+stack-page b T q v user e = rw (ne-eqb (v / 1024) 1023 (λ z. omega (arith, in-stack-slot b q v e)), ne-eqb q 1 user, e)
 
-block-copy-page : (b : List ℕ) (T q : ℕ) → mappingAt b T q 0xFFF00 ≡ maps blockCopy false false false
+block-copy-page : (b : List ℕ) (T q : ℕ) → mappingAt b T q 0xFFF00 ≡ maps blockCopy kernelRead
 unfolding mappingAt kernelPage inTracker choose
 block-copy-page b T q = refl
 
-process-list-page : (b : List ℕ) (T q : ℕ) → mappingAt b T q 0xFFF80 ≡ maps processList false false false
+process-list-page : (b : List ℕ) (T q : ℕ) → mappingAt b T q 0xFFF80 ≡ maps processList kernelRead
 unfolding mappingAt kernelPage choose
 process-list-page b T q = refl
 
-pub tracker-page : (b : List ℕ) (T q i : ℕ) → i < T → T ≤ 2 → mappingAt b T q (0xFFF40 + i) ≡ maps (trackerPage i) true false false
+pub tracker-page : (b : List ℕ) (T q i : ℕ) → i < T → T ≤ 2 → mappingAt b T q (0xFFF40 + i) ≡ maps (trackerPage i) kernelWrite
 unfolding mappingAt kernelPage inTracker choose
 tracker-page b T q i h l =
     let d : 0xFFF40 + i - 0xFFF40 ≡ i = omega arith in
@@ -121,45 +126,85 @@ tracker-page b T q i h l =
       d,
     )
 
-module _ (b flash : List ℕ) (image start len : ℕ) (ok : NoCause b image start len) (q a : ℕ) (lo : 1 ≤ q) (hi : q ≤ processCount b) where
+-- WHAT STANDS AT A PAGE OF A SECTION: neither the stack nor a page of the kernel's own
+module _ (x : Image) (ram : Area) (ok : NoCause x ram) where
+  abbrev b : List ℕ
+  b = x .block
+
+  -- of a section of the kernel's, in every process
+  kernel-section-page : (T q j v : ℕ) → 1 ≤ processCount b → j < sectionsOf b 1 → hasPage b v (sectionRecord b 1 j) ≡ true
+      → mappingAt b T q v ≡ sectionMapping b 1 v (some j)
+  unfolding mappingAt kernelPage inTracker rangeFirst rangeLast choose
+  kernel-section-page T q j v some-process hj e =
+      let from : 0xFFC00 ≤ v = page-from x ram ok 1 j v (omega arith) some-process hj e in
+      let to : v ≤ 0xFFEFF = page-to x ram ok 1 j v (omega arith) some-process hj e in
+      rw (eq-eqb (v / 1024) 1023 (omega arith), ne-eqb v 0xFFF80 (λ y. omega arith), lt-leb 0xFFF40 v (omega arith), ne-eqb v 0xFFF00 (λ y. omega arith))
+      (section-at-page x ram ok 1 j v (omega arith) some-process hj e)
+
+  -- the range of a user process ends below its stack, which ends below the kernel's 4 MiB
+  below-stack : (q v : ℕ) → q ≢ 1 → v ≤ rangeLast b q / 4096 → (v < stackFirst b q) × (stackFirst b q ≤ 0x80000)
+  unfolding rangeLast stackFirst stackPages choose
+  below-stack q v user h = let h′ = rw (ne-eqb q 1 user) at h in rw (ne-eqb q 1 user) (omega arith, omega arith)
+
+  user-section-page : (T q j v : ℕ) → q ≢ 1 → 1 ≤ q → q ≤ processCount b → j < sectionsOf b q → hasPage b v (sectionRecord b q j) ≡ true
+      → mappingAt b T q v ≡ sectionMapping b q v (some j)
+  unfolding mappingAt userPage inStack choose
+  user-section-page T q j v user lo hi hj e =
+      let below = below-stack q v user (page-to x ram ok q j v lo hi hj e) in
+      rw (ne-eqb (v / 1024) 1023 (λ y. omega arith), ne-eqb q 1 user, lt-leb (stackFirst b q) v (below .0)) (section-at-page x ram ok q j v lo hi hj e)
+
+  -- of a section of process p, in process q: its own and the kernel's
+  pub section-page : (T q p j v : ℕ) → 1 ≤ q → q ≤ processCount b → (p ≡ q) ⊎ (p ≡ 1) → j < sectionsOf b p → hasPage b v (sectionRecord b p j) ≡ true
+      → mappingAt b T q v ≡ sectionMapping b p v (some j)
+  section-page T q p j v lo hi of hj e = elim (ℕ-discrete p 1) [
+    | yes k ↦ rw k (kernel-section-page T q j v (omega arith) (rw k at hj) (rw k at e))
+    | no u ↦
+        let own : p ≡ q = elim of [ inl o ↦ o | inr k ↦ absurd (u k) ] in
+        rw (← own) (user-section-page T p j v u (omega arith) (omega arith) hj e)
+  ]
+
+module _ (x : Image) (ram : Area) (ok : NoCause x ram) (q a : ℕ) (lo : 1 ≤ q) (hi : q ≤ processCount (x .block)) where
+  abbrev N : ℕ
+  N = pagesIn ram .pages
+
   abbrev given : View
-  given = sees b flash (tracker b (len / 4096)) (satpWord b (start / 4096) (len / 4096)) q a
+  given = seesOn x (pagesIn ram) q a
 
   -- the view of what stands at virtual page v
-  given-is : {s : Mapping} (v : ℕ) → a / 4096 ≡ v → mappingAt b (trackerPages b (len / 4096)) q v ≡ s
-      → given ≡ viewOf (byteAt b flash (tracker b (len / 4096)) (satpWord b (start / 4096) (len / 4096)) a) s
-  unfolding sees
-  given-is v h e = rw (tracker-pages b (len / 4096), h, e)
+  given-is : {s : Mapping} (v : ℕ) → a / 4096 ≡ v → mappingAt (x .block) (trackerPages (x .block) N) q v ≡ s
+      → given ≡ viewOf (byteAt x (tracker (x .block) N) (satpWord (x .block) (pagesIn ram)) a) s
+  unfolding seesOn sees
+  given-is v h e = rw (tracker-pages (x .block) N, h, e)
 
-  on-section : (p j : ℕ) → (p ≡ q) ⊎ (p ≡ 1) → j < sectionsOf b p → hasPage b (a / 4096) (sectionRecord b p j) ≡ true
-      → given ≡ S.Page (sectionRights b p (sectionRecord b p j)) (sectionByte b flash (sectionRecord b p j) a)
+  on-section : (p j : ℕ) → (p ≡ q) ⊎ (p ≡ 1) → j < sectionsOf (x .block) p → hasPage (x .block) (a / 4096) (sectionRecord (x .block) p j) ≡ true
+      → given ≡ S.Page (sectionRights (x .block) p (sectionRecord (x .block) p j)) (sectionByte x (sectionRecord (x .block) p j) a)
   unfolding sectionMapping viewOf byteAt sectionRights
-  on-section p j of hj e = given-is (a / 4096) refl (section-page b image start len ok (trackerPages b (len / 4096)) q p j (a / 4096) lo hi of hj e)
+  on-section p j of hj e = given-is (a / 4096) refl (section-page x ram ok (trackerPages (x .block) N) q p j (a / 4096) lo hi of hj e)
 
-  on-tracker : (k : ℕ) → k < 4096 * trackerPages b (len / 4096) → a ≡ 0xFFF4_0000 + k
-      → given ≡ S.Page (readable true false false) (getD (tracker b (len / 4096)) k 0)
+  on-tracker : (k : ℕ) → k < 4096 * trackerPages (x .block) N → a ≡ 0xFFF4_0000 + k
+      → given ≡ S.Page kernelWrite (getD (tracker (x .block) N) k 0)
   unfolding viewOf byteAt
   on-tracker k h e =
       let d : a - 0xFFF4_0000 ≡ k = omega arith in
-      given-is (0xFFF40 + k / 4096) (omega arith) (tracker-page b (trackerPages b (len / 4096)) q (k / 4096) (omega arith) (tracker-two b image start len ok))
+      given-is (0xFFF40 + k / 4096) (omega arith) (tracker-page (x .block) (trackerPages (x .block) N) q (k / 4096) (omega arith) (tracker-two x ram ok))
       ∙ rw d
 
-  pub exactly : Exactly b flash (start / 4096) (len / 4096) q a given
+  pub exactly : Exactly x (pagesIn ram) q a given
   unfolding sectionView viewOf byteAt
   exactly = record {
     section = λ p j k of hj hk e.
-        on-section p j of hj (rw e (has-page-in b _ k hk)) ∙ rw e (ap (S.Page (sectionRights b p (sectionRecord b p j))) (section-byte-in b flash _ k hk));
-    around = λ p j of hj e out. on-section p j of hj e ∙ ap (S.Page (sectionRights b p (sectionRecord b p j))) (section-byte-around b flash _ a out);
-    stack = λ user e. given-is (a / 4096) refl (stack-page b _ q (a / 4096) user e);
+        on-section p j of hj (rw e (has-page-in (x .block) _ k hk)) ∙ rw e (ap (S.Page (sectionRights (x .block) p (sectionRecord (x .block) p j))) (section-byte-in x _ k hk));
+    around = λ p j of hj e out. on-section p j of hj e ∙ ap (S.Page (sectionRights (x .block) p (sectionRecord (x .block) p j))) (section-byte-around x _ a out);
+    stack = λ user e. given-is (a / 4096) refl (stack-page (x .block) _ q (a / 4096) user e);
     block-copy = λ k h e.
-        let d : a - 0xFFF0_0000 ≡ k = omega arith in given-is 0xFFF00 (omega arith) (block-copy-page b _ q) ∙ rw d;
-    tracker-ram = λ k h e. on-tracker k (tracker-holds b (len / 4096) k h) e ∙ rw (tracker-byte b (len / 4096) k h);
-    tracker-rest = λ k h l e. on-tracker k l e ∙ rw (tracker-io b (len / 4096) k h);
+        let d : a - 0xFFF0_0000 ≡ k = omega arith in given-is 0xFFF00 (omega arith) (block-copy-page (x .block) _ q) ∙ rw d;
+    tracker-ram = λ k h e. on-tracker k (tracker-holds (x .block) N k h) e ∙ rw (tracker-byte (x .block) N k h);
+    tracker-rest = λ k h l e. on-tracker k l e ∙ rw (tracker-io (x .block) N k h);
     process-list = λ k h e.
-        let d : a - 0xFFF8_0000 ≡ k = omega arith in given-is 0xFFF80 (omega arith) (process-list-page b _ q) ∙ rw d;
+        let d : a - 0xFFF8_0000 ≡ k = omega arith in given-is 0xFFF80 (omega arith) (process-list-page (x .block) _ q) ∙ rw d;
     nothing-else = λ no-section no-stack no-copy no-tracker no-list.
         given-is (a / 4096) refl
-        (by-mapping (λ m. m ≡ unmapped) b (trackerPages b (len / 4096)) q (a / 4096) refl
+        (by-mapping (λ m. m ≡ unmapped) (x .block) (trackerPages (x .block) N) q (a / 4096) refl
         (λ user e. false-not-true (no-stack user) e)
         (λ _ j hj e. false-not-true (no-section q j (inl refl) hj) e)
         (λ j hj e. false-not-true (no-section 1 j (inr refl) hj) e)

@@ -1,13 +1,8 @@
-pub mod Refusal
 pub mod Demand1
-pub mod NoCause
-pub mod Boot
 pub mod Mappings
-pub mod Sections
 pub mod Entries
 pub mod Walk
 pub mod Loaded
-pub mod Counting
 pub mod Exactly
 pub mod Demand2
 pub mod Demand3

@@ -5,24 +5,17 @@ use mathlib.Core.List.{List}
 use mathlib.Core.Bool.{Bool, true, false}
 use Prim.Native.Nat.{ℕ, _+_, _-_, _/_, _≤_, _<_}
 use native.Mathlib.Omega.{arith}
-use lib.Dec.{leb, eqb}
+use lib.Dec.{leb, ltb, eqb}
 use borrow.Author.Tests.{eqb-true, eqb-false, eq-eqb, ne-eqb, leb-true, ltb-true, le-leb}
 use Rattle.notation.specs.Choice.{choose}
 use Rattle.notation.specs.Lists.{exists}
-use Rattle.rules.specs.Block.{processCount, sectionsOf, sectionRecord, firstPage, lastPage, pageCount, writable, executable}
-use Rattle.rules.specs.Space.{Data, sectionPage, trackerPage, processList, blockCopy, Mapping, unmapped, stack, maps, hasPage, sectionMapping, sectionAtPage, inTracker, kernelPage, inStack, userPage, mappingAt}
-use Rattle.rules.specs.Order.{holds, order, slotsOf, inSlots, hasLeaf, dataOwner}
+use Rattle.rules.specs.Block.{processCount, stackPages, stackFirst, sectionsOf, sectionRecord, firstPage, lastPage, pageCount}
+use Rattle.rules.specs.Space.{Data, sectionPage, trackerPage, processList, blockCopy, Mapping, unmapped, stack, maps, sectionRights, kernelRead, kernelWrite, hasPage, sectionMapping, sectionAtPage, inTracker, kernelPage, inStack, userPage, mappingAt}
+use Rattle.rules.specs.Order.{holds, pagesTaken, order, slotsOf, inSlots, hasLeaf, dataOwner}
 use Rattle.laws.specs.Choice.{false-not-true, by-test, by-choose, and-left, and-right, and-both, choose-or}
 use Rattle.laws.specs.Lists.{Occurs, by-find-last, exists-hit, some-of-tab}
-use Rattle.placement.specs.Uses.{order-section, order-tracker, order-process-list, order-block-copy}
-
-pub has-page-first : (b : List ℕ) (v n : ℕ) → hasPage b v n ≡ true → firstPage b n ≤ v
-unfolding hasPage
-has-page-first b v n e = leb-true _ _ (and-left _ _ e)
-
-pub has-page-last : (b : List ℕ) (v n : ℕ) → hasPage b v n ≡ true → v ≤ lastPage b n
-unfolding hasPage
-has-page-last b v n e = leb-true _ _ (and-right (leb (firstPage b n) v) _ e)
+use Rattle.accepted.specs.Sections.{has-page-first, has-page-last}
+use Rattle.order_laws.specs.Uses.{order-section, order-tracker, order-process-list, order-block-copy}
 
 pub in-tracker-first : (T v : ℕ) → inTracker T v ≡ true → 0xFFF40 ≤ v
 unfolding inTracker
@@ -32,27 +25,28 @@ pub in-tracker-last : (T v : ℕ) → inTracker T v ≡ true → v < 0xFFF40 + T
 unfolding inTracker
 in-tracker-last T v e = ltb-true _ _ (and-right (leb 0xFFF40 v) _ e)
 
-pub in-stack-slot : (v : ℕ) → inStack v ≡ true → v / 1024 ≡ 511
-unfolding inStack
-in-stack-slot v e = omega (arith, leb-true 0x7FFFC v (and-left _ (leb v 0x7FFFF) e), leb-true v 0x7FFFF (and-right (leb 0x7FFFC v) _ e))
+pub in-stack-slot : (b : List ℕ) (q v : ℕ) → inStack b q v ≡ true → v / 1024 ≡ 511
+unfolding inStack stackFirst stackPages
+in-stack-slot b q v e =
+    let few : choose (eqb q 1) 0 4 ≤ 4 = by-choose (λ n. n ≤ 4) (eqb q 1) 0 4 (λ _. omega arith) (λ _. omega arith) in
+    omega (arith, leb-true (0x80000 - choose (eqb q 1) 0 4) v (and-left _ (ltb v 0x80000) e), ltb-true v 0x80000 (and-right (leb (0x80000 - choose (eqb q 1) 0 4) v) _ e))
 
 -- THE CASES. A page with the user right is of a section of the process itself, which is not the kernel
 module _ (P : Mapping → Type 0) (b : List ℕ) (T q v : ℕ)
     (p-unmapped : P unmapped)
-    (p-stack : q ≢ 1 → inStack v ≡ true → P stack)
+    (p-stack : q ≢ 1 → inStack b q v ≡ true → P stack)
     (p-user : q ≢ 1 → (j : ℕ) → let n = sectionRecord b q j in j < sectionsOf b q → hasPage b v n ≡ true
-    → P (maps (sectionPage q j (v - firstPage b n)) (writable b n) (executable b n) true))
+    → P (maps (sectionPage q j (v - firstPage b n)) (sectionRights b q n)))
     (p-kernel : (j : ℕ) → let n = sectionRecord b 1 j in j < sectionsOf b 1 → hasPage b v n ≡ true
-    → P (maps (sectionPage 1 j (v - firstPage b n)) (writable b n) (executable b n) false))
-    (p-block-copy : v ≡ 0xFFF00 → P (maps blockCopy false false false))
-    (p-tracker : inTracker T v ≡ true → P (maps (trackerPage (v - 0xFFF40)) true false false))
-    (p-process-list : v ≡ 0xFFF80 → P (maps processList false false false)) where
-  at-section : (p : ℕ) (u : Bool)
-      → ((j : ℕ) → let n = sectionRecord b p j in j < sectionsOf b p → hasPage b v n ≡ true
-      → P (maps (sectionPage p j (v - firstPage b n)) (writable b n) (executable b n) u))
-      → P (sectionAtPage b p v u)
+    → P (maps (sectionPage 1 j (v - firstPage b n)) (sectionRights b 1 n)))
+    (p-block-copy : v ≡ 0xFFF00 → P (maps blockCopy kernelRead))
+    (p-tracker : inTracker T v ≡ true → P (maps (trackerPage (v - 0xFFF40)) kernelWrite))
+    (p-process-list : v ≡ 0xFFF80 → P (maps processList kernelRead)) where
+  at-section : (p : ℕ)
+      → ((j : ℕ) → let n = sectionRecord b p j in j < sectionsOf b p → hasPage b v n ≡ true → P (maps (sectionPage p j (v - firstPage b n)) (sectionRights b p n)))
+      → P (sectionAtPage b p v)
   unfolding sectionAtPage sectionMapping
-  at-section p u h = by-find-last (λ j. hasPage b v (sectionRecord b p j)) (λ m. P (sectionMapping b p v u m)) (sectionsOf b p) (λ _. p-unmapped) (λ j e l. h j l e)
+  at-section p h = by-find-last (λ j. hasPage b v (sectionRecord b p j)) (λ m. P (sectionMapping b p v m)) (sectionsOf b p) (λ _. p-unmapped) (λ j e l. h j l e)
 
   pub by-mapping : P (mappingAt b T q v)
   unfolding mappingAt kernelPage userPage
@@ -61,9 +55,19 @@ module _ (P : Mapping → Type 0) (b : List ℕ) (T q v : ℕ)
       (λ _. by-choose P (eqb v 0xFFF80) _ _ (λ e. p-process-list (eqb-true v 0xFFF80 e))
       (λ _. by-choose P (inTracker T v) _ _ p-tracker
       (λ _. by-choose P (eqb v 0xFFF00) _ _ (λ e. p-block-copy (eqb-true v 0xFFF00 e))
-      (λ _. at-section 1 false p-kernel))))
+      (λ _. at-section 1 p-kernel))))
       (λ _. by-choose P (eqb q 1) _ _ (λ _. p-unmapped)
-      (λ u. by-choose P (inStack v) _ _ (p-stack (eqb-false q 1 u)) (λ _. at-section q true (p-user (eqb-false q 1 u)))))
+      (λ u. by-choose P (inStack b q v) _ _ (p-stack (eqb-false q 1 u)) (λ _. at-section q (p-user (eqb-false q 1 u)))))
+
+-- every page is readable
+abbrev pub Readable : Mapping → Type 0
+Readable unmapped = Unit {0}
+Readable stack = Unit {0}
+Readable (maps d t) = t .read ≡ true
+
+pub readable : (b : List ℕ) (T q v : ℕ) → Readable (mappingAt b T q v)
+unfolding sectionRights kernelRead kernelWrite
+readable b T q v = by-mapping Readable b T q v tt (λ _ _. tt) (λ _ _ _ _. refl) (λ _ _ _. refl) (λ _. refl) (λ _. refl) (λ _. refl)
 
 -- every page of data that stands somewhere is in the order, and stands at its one virtual page
 unfoldable pub homeOf : List ℕ → Data → ℕ
@@ -75,11 +79,11 @@ homeOf b blockCopy = 0xFFF00
 abbrev pub AtHome : List ℕ → ℕ → ℕ → Mapping → Type 0
 AtHome b T v unmapped = Unit {0}
 AtHome b T v stack = Unit {0}
-AtHome b T v (maps d w x u) = Occurs (order b T) (holds d) × (homeOf b d ≡ v)
+AtHome b T v (maps d t) = Occurs (order b T) (holds d) × (homeOf b d ≡ v)
 
 section-at-home : (b : List ℕ) (T q v j : ℕ) → 1 ≤ q → q ≤ processCount b → j < sectionsOf b q → hasPage b v (sectionRecord b q j) ≡ true
     → Occurs (order b T) (holds (sectionPage q j (v - firstPage b (sectionRecord b q j)))) × (homeOf b (sectionPage q j (v - firstPage b (sectionRecord b q j))) ≡ v)
-unfolding homeOf pageCount
+unfolding homeOf pagesTaken pageCount
 section-at-home b T q v j lo hi l e =
     let f : firstPage b (sectionRecord b q j) ≤ v = has-page-first b v _ e in
     let g : v ≤ lastPage b (sectionRecord b q j) = has-page-last b v _ e in
@@ -99,13 +103,13 @@ at-home b T q v lo hi =
 abbrev pub Own : ℕ → Mapping → Type 0
 Own q unmapped = Unit {0}
 Own q stack = Unit {0}
-Own q (maps d w x u) = (dataOwner d ≡ choose u q 1) × (u ≡ true → q ≢ 1)
+Own q (maps d t) = (dataOwner d ≡ choose (t .user) q 1) × (t .user ≡ true → q ≢ 1)
 
 pub own : (b : List ℕ) (T q v : ℕ) → Own q (mappingAt b T q v)
-unfolding dataOwner choose
+unfolding sectionRights kernelRead kernelWrite dataOwner choose
 own b T q v =
-    by-mapping (Own q) b T q v tt (λ _ _. tt) (λ user _ _ _. (refl, λ _. user)) (λ _ _ _. (refl, false-not-true refl)) (λ _. (refl, false-not-true refl)) (λ _. (refl, false-not-true refl))
-    (λ _. (refl, false-not-true refl))
+    by-mapping (Own q) b T q v tt (λ _ _. tt) (λ user _ _ _. (rw (ne-eqb q 1 user), λ _. user)) (λ _ _ _. (refl, false-not-true refl))
+    (λ _. (refl, false-not-true refl)) (λ _. (refl, false-not-true refl)) (λ _. (refl, false-not-true refl))
 
 -- WHERE A PROCESS HAS NO LEAF TABLE, NOTHING STANDS
 in-root-slot : (b : List ℕ) (v n : ℕ) → hasPage b v n ≡ true → inSlots (v / 1024) (slotsOf b n) ≡ true
@@ -120,9 +124,9 @@ user-unmapped : (b : List ℕ) (q v : ℕ) → choose (eqb (v / 1024) 511) true 
 unfolding userPage sectionAtPage sectionMapping
 user-unmapped b q v e =
     let none-here : (eqb (v / 1024) 511 ≡ false) × (exists (λ j. inSlots (v / 1024) (slotsOf b (sectionRecord b q j))) (sectionsOf b q) ≡ false) = choose-or _ _ e in
-    by-choose (λ s. s ≡ unmapped) (inStack v) _ _
-    (λ t. absurd (eqb-false (v / 1024) 511 (none-here .0) (in-stack-slot v t)))
-    (λ _. by-find-last (λ j. hasPage b v (sectionRecord b q j)) (λ m. sectionMapping b q v true m ≡ unmapped) (sectionsOf b q)
+    by-choose (λ s. s ≡ unmapped) (inStack b q v) _ _
+    (λ t. absurd (eqb-false (v / 1024) 511 (none-here .0) (in-stack-slot b q v t)))
+    (λ _. by-find-last (λ j. hasPage b v (sectionRecord b q j)) (λ m. sectionMapping b q v m ≡ unmapped) (sectionsOf b q)
     (λ _. refl)
     (λ j c h. cc (exists-hit (λ j. inSlots (v / 1024) (slotsOf b (sectionRecord b q j))) (sectionsOf b q) j (in-root-slot b v _ c) h, none-here .1)))
 

@@ -39,6 +39,12 @@ unfolding choose
 choose-map f true x y = refl
 choose-map f false x y = refl
 
+-- the same where the test passes
+pub choose-same : {A : Type 0} (c : Bool) (x y z : A) → (c ≡ true → x ≡ y) → choose c x z ≡ choose c y z
+unfolding choose
+choose-same true x y z h = h refl
+choose-same false x y z h = refl
+
 -- the same by either of two tests
 pub choose-either : {A : Type 0} (a c : Bool) (x y : A) → choose a x (choose c x y) ≡ choose (choose a true c) x y
 unfolding choose

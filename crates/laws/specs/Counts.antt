@@ -1,6 +1,7 @@
 -- Laws of counting and of sums.
 use mathlib.Core.Path.{_≡_, refl, sym, _∙_}
-use mathlib.Core.List.{List, [], _∷_}
+use mathlib.Core.Logic.{_≢_}
+use mathlib.Core.List.{List, [], _∷_, _++_}
 use mathlib.Core.Bool.{Bool, true, false}
 use mathlib.Core.Option.{Option, none, some}
 use Prim.Native.Nat.{ℕ, zero, suc, _+_, _-_, _*_, _≤_, _<_}
@@ -14,7 +15,7 @@ use borrow.Author.Tests.{eq-eqb, ne-eqb}
 use Rattle.notation.specs.Choice.{choose}
 use Rattle.notation.specs.Lists.{tab, gather, count, sum, lookup}
 use Rattle.laws.specs.Choice.{by-choose, choose-yes, choose-no}
-use Rattle.laws.specs.Lists.{Every}
+use Rattle.laws.specs.Lists.{Every, every-gather}
 
 -- 1 where the test passes
 abbrev pub one : Bool → ℕ
@@ -59,6 +60,15 @@ sum-le m (suc n) f h = elim (decLt m (suc n)) [
 ]
 
 -- the first term in front
+-- an element is part of the sum
+pub sum-at : (n k : ℕ) (f : ℕ → ℕ) → k < n → sum k f + f k ≤ sum n f
+unfolding sum
+sum-at zero k f h = absurd (omega arith)
+sum-at (suc n) k f h = elim (decLt k n) [
+  | yes l ↦ omega (arith, sum-at n k f l)
+  | no l ↦ let e : k ≡ n = omega arith in rw e (omega arith)
+]
+
 pub sum-first : (n : ℕ) (f : ℕ → ℕ) → sum (suc n) f ≡ f 0 + sum n (λ i. f (suc i))
 unfolding sum
 sum-first zero f = omega arith
@@ -124,6 +134,25 @@ module _ {A : Type 0} where
   pub count-none : (t : A → Bool) (l : List A) → Every (λ x. t x ≡ false) l → count t l ≡ 0
   count-none t [] e = count-nil t
   count-none t (x ∷ l) e = count-cons t x l ∙ omega (arith, one-no (e .0), count-none t l (e .1))
+
+  pub count-append : (t : A → Bool) (l m : List A) → count t (l ++ m) ≡ count t l + count t m
+  count-append t [] m = omega (arith, count-nil t)
+  count-append t (x ∷ l) m = count-cons t x (l ++ m) ∙ omega (arith, count-cons t x l, count-append t l m)
+
+  pub count-all : (t : A → Bool) (l : List A) → Every (λ x. t x ≡ true) l → count t l ≡ length l
+  count-all t [] e = count-nil t
+  count-all t (x ∷ l) e = count-cons t x l ∙ omega (arith, one-yes (e .0), count-all t l (e .1))
+
+  -- only list k of those gathered has elements that pass
+  pub count-gather : (t : A → Bool) (n : ℕ) (f : ℕ → List A) (k : ℕ) → k < n → ((m : ℕ) → m ≢ k → Every (λ x. t x ≡ false) (f m)) → count t (gather n f) ≡ count t (f k)
+  unfolding gather
+  count-gather t zero f k h a = absurd (not-suc-le-zero h)
+  count-gather t (suc n) f k h a = count-append t (gather n f) (f n) ∙ elim (decLt k n) [
+    | yes l ↦ omega (arith, count-gather t n f k l a, count-none t (f n) (a n (λ e. omega arith)))
+    | no l ↦
+        let e : k ≡ n = omega arith in
+        rw e (omega (arith, count-none t (gather n f) (every-gather _ n f (λ m h. a m (λ z. omega arith)))))
+  ]
 
   pub count-tab : (t : A → Bool) (n : ℕ) (f : ℕ → A) → count t (tab n f) ≡ sum n (λ i. one (t (f i)))
   unfolding tab

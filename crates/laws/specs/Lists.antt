@@ -19,6 +19,11 @@ use Rattle.laws.specs.Choice.{by-choose}
 pub none-some : {A : Type 0} {x : A} {B : Type 0} → none ≡ some x → B
 none-some e = let z : _≡_ {A = ℕ} 0 1 = cc in absurd (omega arith)
 
+-- a fact of the first element and one of the others
+infixr 5 _and_
+pub _and_ : {P Q : Type 0} → P → Q → P × Q
+p and q = (p, q)
+
 module _ {A : Type 0} where
   -- TAB
   pub tab-length : (n : ℕ) (f : ℕ → A) → length (tab n f) ≡ n
@@ -93,6 +98,10 @@ module _ {A : Type 0} where
   lookup-tab (suc n) f (suc i) h = lookup-tab n (λ k. f (suc k)) i (le-of-suc-le-suc h)
 
   -- element i of list k of those gathered
+  pub gather-next : (n : ℕ) (f : ℕ → List A) → gather (n + 1) f ≡ gather n f ++ f n
+  unfolding gather
+  gather-next n f = rw add-one
+
   pub lookup-gather : (n : ℕ) (f : ℕ → List A) (k i : ℕ) (x : A) → k < n → lookup (f k) i ≡ some x → lookup (gather n f) (length (gather k f) + i) ≡ some x
   unfolding gather
   lookup-gather zero f k i x h e = absurd (not-suc-le-zero h)

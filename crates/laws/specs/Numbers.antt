@@ -1,11 +1,12 @@
 -- Laws of numbers that `omega` does not find by itself.
 use mathlib.Core.Path.{_≡_, sym, ap, _∙_}
+use mathlib.Core.Bool.{_&&_}
 use Prim.Native.Nat.{ℕ, _+_, _*_, _/_, _%_, _<_}
 use native.Mathlib.Nat.{div-div-eq-div-mul, mod-add-div, mod-eq-of-lt}
-use native.Mathlib.Decide.{decLt}
+use native.Mathlib.Decide.{decLt, ℕ-discrete}
 use native.Mathlib.Omega.{arith}
-use lib.Dec.{leb}
-use borrow.Author.Tests.{le-leb, lt-leb}
+use lib.Dec.{leb, eqb}
+use borrow.Author.Tests.{eq-eqb, ne-eqb, le-leb, lt-leb}
 
 -- a word of four bytes, put together again
 pub four-bytes : (n : ℕ)
@@ -36,4 +37,14 @@ pub leb-shift : (x y x′ y′ : ℕ) → x + y′ ≡ x′ + y → leb x y ≡ 
 leb-shift x y x′ y′ e = elim (decLt y x) [
   | yes l ↦ lt-leb x y l ∙ sym (lt-leb x′ y′ (omega arith))
   | no l ↦ le-leb x y (omega arith) ∙ sym (le-leb x′ y′ (omega arith))
+]
+
+-- from k to k is k alone
+pub leb-one : (k m : ℕ) → (leb k m && leb m k) ≡ eqb m k
+leb-one k m = elim (ℕ-discrete m k) [
+  | yes e ↦ rw (eq-eqb m k e, le-leb k m (omega arith), le-leb m k (omega arith))
+  | no e ↦ elim (decLt m k) [
+    | yes l ↦ rw (ne-eqb m k e, lt-leb k m l)
+    | no l ↦ rw (ne-eqb m k e, le-leb k m (omega arith), lt-leb m k (omega arith))
+  ]
 ]

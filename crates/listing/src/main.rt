@@ -39,8 +39,8 @@ fn list(block: &[u8], flash: &[u8], start: u32, pages: u32) {
 }
 
 fn list_small_board() {
-    let flash = [0u8; small::FLASH];
-    list(&small::block(), &flash, small::START, PAGES);
+    let flash = [0u8; small_block::FLASH];
+    list(&small_block::block(), &flash, small_block::START, PAGES);
 }
 
 // Opens the file that argument i names; `name` is what the usage calls it. Below 0 it was said why not.

@@ -12,22 +12,25 @@ use lib.ListN.{length, getD}
 use borrow.Author.Tests.{eq-eqb, ne-eqb, eqb-true, leb-true, ltb-true, le-leb, lt-leb, lt-ltb, le-ltb}
 use Rattle.notation.specs.Choice.{choose}
 use Rattle.notation.specs.Lists.{tab, findLast}
-use Rattle.laws.specs.Choice.{choose-yes, choose-no, choose-map, and-left, and-right}
+use Rattle.laws.specs.Numbers.{leb-one}
+use Rattle.laws.specs.Choice.{choose-same, choose-yes, choose-no, choose-map, and-left, and-right}
 use Rattle.laws.specs.Lists.{tab-length, tab-get, tab-same, find-last-none, find-last-next}
-use Rattle.records.specs.Read.{IsSection}
-use Rattle.records.specs.declared.Section.{Section}
-use Rattle.rules.specs.Block.{processCount, sectionsOf, sectionRecord, firstSection, firstPage, lastPage, pageCount, writable, executable}
-use Rattle.rules.specs.Space.{Data, sectionPage, trackerPage, processList, blockCopy, Mapping, stack, maps, hasPage, sectionMapping, sectionAtPage, inTracker, kernelPage, inStack, userPage, mappingAt}
-use Rattle.rules.specs.Order.{Use, holds, hasLeaf, pagesFor, trackerPages, uses, pagesNeeded}
+use Rattle.types.specs.declared.PageRange.{PageRange}
+use Rattle.types.specs.declared.Rights.{Rights}
+use Rattle.block_records.specs.Read.{IsSection}
+use Rattle.block_records.specs.declared.Section.{Section}
+use Rattle.rules.specs.Block.{processCount, stackPages, sectionsOf, sectionRecord, firstSection, firstPage, lastPage, pageCount}
+use Rattle.rules.specs.Space.{Data, sectionPage, trackerPage, processList, blockCopy, Mapping, stack, maps, sectionRights, kernelRead, kernelWrite, hasPage, sectionMapping, sectionAtPage, inTracker, kernelPage, inStack, userPage, mappingAt}
+use Rattle.rules.specs.Order.{Use, holds, pagesTaken, hasLeaf, pagesFor, trackerPages, uses, pagesNeeded}
 use Rattle.rules.specs.Entries.{absentEntry, reservedEntry, pageEntry}
 use Rattle.rules.specs.Tables.{entryFor, leafEntry}
 use Rattle.laws.specs.Counts.{sum-le}
 use Rattle.rules.specs.Load.{physPage}
-use Rattle.placement.specs.Places.{At, pagesBefore, processPages, userPages, sectionPlace, trackerPlace, user-pages-next, pages-before-none, pages-before-next, place-section, place-tracker, place-process-list, place-block-copy, ram-page-at}
-use Rattle.placement.specs.Room.{needed-parts}
-use Rattle.tables.specs.Filled.{pagesMapped, stackReserved}
-use Rattle.demands.specs.Boot.{Fits}
-use Rattle.loader.specs.LeafEntries.{entriesOf}
+use Rattle.order_laws.specs.Places.{At, pagesBefore, processPages, userPages, sectionPlace, trackerPlace, user-pages-next, pages-before-none, pages-before-next, place-section, place-tracker, place-process-list, place-block-copy, ram-page-at}
+use Rattle.order_laws.specs.Room.{needed-parts}
+use Rattle.sv32_tables.specs.Filled.{pagesMapped, stackReserved, stack-reserved}
+use Rattle.accepted.specs.Fits.{Fits}
+use Rattle.loader.specs.LeafEntries.{entriesOf, rightsOf}
 
 -- PLACES
 user-pages-le : (b : List ℕ) (m n : ℕ) → m ≤ n → userPages b m ≤ userPages b n
@@ -57,47 +60,33 @@ sections-le b q lo hi = elim (ℕ-discrete q 1) [
       omega (arith, user-place b q e, kernel-place b 1 _ refl refl, user-pages-le b (q - 2 + 1) (processCount b - 1) (omega arith))
 ]
 
-module _ {b : List ℕ} {base N : ℕ} (fits : Fits b base N) where
+module _ {b : List ℕ} {ram : PageRange} (fits : Fits b ram) where
   -- the tracker, the process list and the block copy have their places
-  pub tracker-room : trackerPlace b + trackerPages b N + 2 ≤ N
-  tracker-room = omega (arith, fits .enough, needed-parts b N)
+  pub tracker-room : trackerPlace b + trackerPages b (ram .pages) + 2 ≤ ram .pages
+  tracker-room = omega (arith, fits .enough, needed-parts b (ram .pages))
 
   -- the tracker's last virtual page has a number of 32 bits
-  pub tracker-end : (T : ℕ) → T ≡ trackerPages b N → 0xFFF40 + (T - 1) < 0x1_0000_0000
+  pub tracker-end : (T : ℕ) → T ≡ trackerPages b (ram .pages) → 0xFFF40 + (T - 1) < 0x1_0000_0000
   tracker-end T e = omega (arith, tracker-room, fits .few-pages)
 
-  pub process-room : (q : ℕ) → 1 ≤ q → q ≤ processCount b → sectionPlace b q + 2 ≤ N
+  pub process-room : (q : ℕ) → 1 ≤ q → q ≤ processCount b → sectionPlace b q + 2 ≤ ram .pages
   process-room q lo hi = omega (arith, tracker-room, sections-le b q lo hi)
 
-  section-room : (q j : ℕ) → 1 ≤ q → q ≤ processCount b → j ≤ sectionsOf b q → sectionPlace b q + pagesBefore b q j + 2 ≤ N
+  section-room : (q j : ℕ) → 1 ≤ q → q ≤ processCount b → j ≤ sectionsOf b q → sectionPlace b q + pagesBefore b q j + 2 ≤ ram .pages
   unfolding processPages
   section-room q j lo hi h = omega (arith, tracker-room, sections-le b q lo hi, pages-before-le b q j (sectionsOf b q) h)
 
   -- the physical page of a use; a page number of its own size is the same modulo 0x400000
-  phys-at : (u : Use) (i P : ℕ) → At b (trackerPages b N) u i → P ≡ base + (N - 1 - i) → P ≡ physPage b base N u
+  phys-at : (u : Use) (i P : ℕ) → At b (trackerPages b (ram .pages)) u i → P ≡ ram .base + (ram .pages - 1 - i) → P ≡ physPage b ram u
   unfolding physPage
-  phys-at u i P a e = e ∙ sym (rw (ram-page-at b N u i a))
+  phys-at u i P a e = e ∙ sym (rw (ram-page-at b (ram .pages) u i a))
 
-  phys-mod : (u : Use) (i P : ℕ) → At b (trackerPages b N) u i → P ≡ base + (N - 1 - i) → P % 0x40_0000 ≡ physPage b base N u
+  phys-mod : (u : Use) (i P : ℕ) → At b (trackerPages b (ram .pages)) u i → P ≡ ram .base + (ram .pages - 1 - i) → P % 0x40_0000 ≡ physPage b ram u
   unfolding pagesNeeded uses
   phys-mod u i P a e = mod-eq-of-lt (omega (arith, fits .end, fits .enough, a .inside)) ∙ phys-at u i P a e
 
 -- ONE MAPPING OVER ANOTHER
-choose-same : {A : Type 0} (c : Bool) (x y z : A) → (c ≡ true → x ≡ y) → choose c x z ≡ choose c y z
-unfolding choose
-choose-same true x y z h = h refl
-choose-same false x y z h = refl
-
--- one page, and T pages, as a first and a last one
-one-page : (x v : ℕ) → (leb x v && leb v x) ≡ eqb v x
-one-page x v = elim (ℕ-discrete v x) [
-  | yes e ↦ rw (eq-eqb v x e, le-leb x v (omega arith), le-leb v x (omega arith))
-  | no e ↦ elim (decLt v x) [
-    | yes l ↦ rw (ne-eqb v x e, lt-leb x v l)
-    | no l ↦ rw (ne-eqb v x e, le-leb x v (omega arith), lt-leb v x (omega arith))
-  ]
-]
-
+-- T pages, as a first and a last one
 tracker-test : (T v : ℕ) → 1 ≤ T → (leb 0xFFF40 v && leb v (0xFFF40 + (T - 1))) ≡ inTracker T v
 unfolding inTracker
 tracker-test T v h = elim (decLt v (0xFFF40 + T)) [
@@ -123,142 +112,144 @@ module _ (phys : Use → ℕ) (m : ℕ) where
       rw (tab-get 1024 f i 0 l) (choose-same (t v) _ _ _ (h i l) ∙ sym (choose-map (entryFor phys) (t v) (new v) (old v)))))
 
   -- the virtual pages lo to hi are mapped over `old`, where `test` says the same of a page as lo and hi do
-  pages-over : (old new : ℕ → Mapping) (lo hi first : ℕ) (w r u : Bool) (test : ℕ → Bool) (e : List ℕ)
+  pages-over : (old new : ℕ → Mapping) (lo hi first : ℕ) (t : Rights) (test : ℕ → Bool) (e : List ℕ)
       → e ≡ entriesOf phys old m
       → ((v : ℕ) → (leb lo v && leb v hi) ≡ test v)
-      → ((v : ℕ) → test v ≡ true → pageEntry ((first - (v - lo)) % 0x40_0000) w r u ≡ entryFor phys (new v))
-      → pagesMapped e m lo hi first w r u ≡ entriesOf phys (λ v. choose (test v) (new v) (old v)) m
+      → ((v : ℕ) → test v ≡ true → pageEntry ((first - (v - lo)) % 0x40_0000) t ≡ entryFor phys (new v))
+      → pagesMapped e m lo hi first t ≡ entriesOf phys (λ v. choose (test v) (new v) (old v)) m
   unfolding pagesMapped
-  pages-over old new lo hi first w r u test e p s h =
+  pages-over old new lo hi first t test e p s h =
       over old new (λ v. leb lo v && leb v hi) _ e p (λ i _ c. h (1024 * m + i) (rw (s (1024 * m + i)) at c))
       ∙ entries-same _ _ (λ v. rw (s v))
 
-  page-over : (old : ℕ → Mapping) (x P : ℕ) (d : Data) (w r u : Bool) (e : List ℕ)
+  page-over : (old : ℕ → Mapping) (x P : ℕ) (d : Data) (t : Rights) (e : List ℕ)
       → e ≡ entriesOf phys old m
       → P % 0x40_0000 ≡ phys (holds d)
-      → pagesMapped e m x x P w r u ≡ entriesOf phys (λ v. choose (eqb v x) (maps d w r u) (old v)) m
+      → pagesMapped e m x x P t ≡ entriesOf phys (λ v. choose (eqb v x) (maps d t) (old v)) m
   unfolding entryFor
-  page-over old x P d w r u e p h = pages-over old (λ _. maps d w r u) x x P w r u (λ v. eqb v x) e p (one-page x) (λ v c.
+  page-over old x P d t e p h = pages-over old (λ _. maps d t) x x P t (λ v. eqb v x) e p (leb-one x) (λ v c.
       let s : v ≡ x = eqb-true v x c in
       let z : P - (v - x) ≡ P = omega arith in
       rw (z, h))
 
 -- SECTIONS
 -- what stands at virtual page v once the first n sections of process q are mapped
-unfoldable pub ofFirst : List ℕ → ℕ → Bool → ℕ → ℕ → Mapping
-ofFirst b q user n v = sectionMapping b q v user (findLast (λ j. hasPage b v (sectionRecord b q j)) n)
+unfoldable pub ofFirst : List ℕ → ℕ → ℕ → ℕ → Mapping
+ofFirst b q n v = sectionMapping b q v (findLast (λ j. hasPage b v (sectionRecord b q j)) n)
 
 -- MAPPED: the first j sections of process q are mapped in the leaf table for root slot m, and `place` is the place after their pages
-pub record Mapped (b : List ℕ) (base N q m : ℕ) (user : Bool) (j place : ℕ) (e : List ℕ) : Type 0 where
+pub record Mapped (b : List ℕ) (ram : PageRange) (q m j place : ℕ) (e : List ℕ) : Type 0 where
   pub at-place : place ≡ sectionPlace b q + pagesBefore b q j
-  pub room : place + 2 ≤ N
-  pub done : e ≡ entriesOf (physPage b base N) (ofFirst b q user j) m
+  pub room : place + 2 ≤ ram .pages
+  pub done : e ≡ entriesOf (physPage b ram) (ofFirst b q j) m
 
-pub mapped-none : {b : List ℕ} {base N : ℕ} → Fits b base N → (q m : ℕ) (user : Bool) → 1 ≤ q → q ≤ processCount b → {place : ℕ} {e : List ℕ}
+pub mapped-none : {b : List ℕ} {ram : PageRange} → Fits b ram → (q m : ℕ) → 1 ≤ q → q ≤ processCount b → {place : ℕ} {e : List ℕ}
     → place ≡ sectionPlace b q
     → e ≡ tab 1024 (λ i. 0)
-    → Mapped b base N q m user 0 place e
+    → Mapped b ram q m 0 place e
 unfolding entriesOf ofFirst sectionMapping entryFor absentEntry
-mapped-none {b} fits q m user lo hi p z = record {
+mapped-none {b} fits q m lo hi p z = record {
   at-place = omega (arith, pages-before-none b q);
   room = omega (arith, process-room fits q lo hi);
   done = z ∙ tab-same 1024 _ _ 0 (λ i _. rw find-last-none);
 }
 
 -- one section more
-module _ {b : List ℕ} {base N : ℕ} (fits : Fits b base N) (q j : ℕ) (lo : 1 ≤ q) (hi : q ≤ processCount b) (h : j < sectionsOf b q) where
-  section-phys : (v P : ℕ) → hasPage b v (sectionRecord b q j) ≡ true → P ≡ base + (N - 1 - (sectionPlace b q + pagesBefore b q j))
-      → (P - (v - firstPage b (sectionRecord b q j))) % 0x40_0000 ≡ physPage b base N (holds (sectionPage q j (v - firstPage b (sectionRecord b q j))))
-  unfolding hasPage pageCount pagesNeeded uses
+module _ {b : List ℕ} {ram : PageRange} (fits : Fits b ram) (q j : ℕ) (lo : 1 ≤ q) (hi : q ≤ processCount b) (h : j < sectionsOf b q) where
+  section-phys : (v P : ℕ) → hasPage b v (sectionRecord b q j) ≡ true → P ≡ ram .base + (ram .pages - 1 - (sectionPlace b q + pagesBefore b q j))
+      → (P - (v - firstPage b (sectionRecord b q j))) % 0x40_0000 ≡ physPage b ram (holds (sectionPage q j (v - firstPage b (sectionRecord b q j))))
+  unfolding hasPage pagesTaken pageCount pagesNeeded uses
   section-phys v P c e =
       let n : ℕ = sectionRecord b q j in
       let from : firstPage b n ≤ v = leb-true _ _ (and-left _ _ c) in
       let to : v ≤ lastPage b n = leb-true _ _ (and-right (leb (firstPage b n) v) _ c) in
-      let a = place-section b (trackerPages b N) q j (v - firstPage b n) lo hi h (omega arith) in
+      let a = place-section b (trackerPages b (ram .pages)) q j (v - firstPage b n) lo hi h (omega arith) in
       phys-mod fits _ _ _ a (omega (arith, fits .enough, a .inside))
 
-  section-over : (m P : ℕ) (user : Bool) (e : List ℕ) → let n = sectionRecord b q j in
-      e ≡ entriesOf (physPage b base N) (ofFirst b q user j) m
-      → P ≡ base + (N - 1 - (sectionPlace b q + pagesBefore b q j))
-      → pagesMapped e m (firstPage b n) (lastPage b n) P (writable b n) (executable b n) user ≡ entriesOf (physPage b base N) (ofFirst b q user (j + 1)) m
+  section-over : (m P : ℕ) (e : List ℕ) → let n = sectionRecord b q j in
+      e ≡ entriesOf (physPage b ram) (ofFirst b q j) m
+      → P ≡ ram .base + (ram .pages - 1 - (sectionPlace b q + pagesBefore b q j))
+      → pagesMapped e m (firstPage b n) (lastPage b n) P (sectionRights b q n) ≡ entriesOf (physPage b ram) (ofFirst b q (j + 1)) m
   unfolding hasPage ofFirst sectionMapping entryFor
-  section-over m P user e p a =
+  section-over m P e p a =
       let n : ℕ = sectionRecord b q j in
-      pages-over (physPage b base N) m (ofFirst b q user j) (λ v. sectionMapping b q v user (some j)) (firstPage b n) (lastPage b n) P _ _ _ (λ v. hasPage b v n) e p
+      pages-over (physPage b ram) m (ofFirst b q j) (λ v. sectionMapping b q v (some j)) (firstPage b n) (lastPage b n) P _ (λ v. hasPage b v n) e p
       (λ _. refl) (λ v c. rw (section-phys v P c a))
-      ∙ entries-same _ m _ _ (λ v. sym (rw find-last-next (choose-map (sectionMapping b q v user) (hasPage b v n) (some j) _)))
+      ∙ entries-same _ m _ _ (λ v. sym (rw find-last-next (choose-map (sectionMapping b q v) (hasPage b v n) (some j) _)))
 
-pub mapped-more : {b : List ℕ} {base N q m : ℕ} {user : Bool} {j place : ℕ} {e : List ℕ} → Mapped b base N q m user j place e
-    → Fits b base N → 1 ≤ q → q ≤ processCount b
-    → {first count P : ℕ} {s : Section} {e′ : List ℕ}
+pub mapped-more : {b : List ℕ} {ram : PageRange} {q m j place : ℕ} {e : List ℕ} → Mapped b ram q m j place e
+    → Fits b ram → 1 ≤ q → q ≤ processCount b
+    → {first count P : ℕ} {s : Section} {t : Rights} {e′ : List ℕ}
     → first ≡ firstSection b q
     → count ≡ sectionsOf b q
     → j < count
     → IsSection b (first + j) s
-    → P ≡ base + (N - 1 - place)
-    → e′ ≡ pagesMapped e m (s .«first_page» .0) (s .«last_page» .0) P (s .writable) (s .executable) user
-    → Mapped b base N q m user (j + 1) (place + s .pages) e′
-unfolding sectionRecord
-mapped-more {b} {base} {N} {q} {m} {user} {j} {place} {e} t fits lo hi {P = P} {s} f c l is a w =
+    → t ≡ rightsOf q (s .writable) (s .executable)
+    → P ≡ ram .base + (ram .pages - 1 - place)
+    → e′ ≡ pagesMapped e m (s .«first_page» .0) (s .«last_page» .0) P t
+    → Mapped b ram q m (j + 1) (place + s .pages) e′
+unfolding sectionRecord sectionRights
+mapped-more {b} {ram} {q} {m} {j} {place} {e} t fits lo hi {P = P} {s} f c l is rights a w =
     let next = pages-before-next b q j in
-    let pages = rw f at (is .page-count) in
+    let pages = rw f at (is .pages-taken) in
     let at-place : place + s .pages ≡ sectionPlace b q + pagesBefore b q (j + 1) = omega (arith, t .at-place) in
     record {
       at-place = at-place;
       room = omega (arith, section-room fits q (j + 1) lo hi (omega arith));
-      done = w ∙ rw (is .first-page, is .last-page, is .is-writable, is .is-executable, f) (section-over fits q j lo hi (omega arith) m P user e (t .done) (rw (t .at-place) at a));
+      done = w ∙ rw (is .first-page, is .last-page, rights, is .is-writable, is .is-executable, f) (section-over fits q j lo hi (omega arith) m P e (t .done) (rw (t .at-place) at a));
     }
 
-pub mapped-all : {b : List ℕ} {base N q m : ℕ} {user : Bool} {j place : ℕ} {e : List ℕ} → Mapped b base N q m user j place e → j ≡ sectionsOf b q
-    → e ≡ entriesOf (physPage b base N) (λ v. sectionAtPage b q v user) m
+pub mapped-all : {b : List ℕ} {ram : PageRange} {q m j place : ℕ} {e : List ℕ} → Mapped b ram q m j place e → j ≡ sectionsOf b q
+    → e ≡ entriesOf (physPage b ram) (sectionAtPage b q) m
 unfolding ofFirst sectionAtPage
 mapped-all t l = rw l at (t .done)
 
 -- THE WHOLE TABLE
-module _ {b : List ℕ} {base N : ℕ} (fits : Fits b base N) where
-  tracker-phys : (v P : ℕ) → inTracker (trackerPages b N) v ≡ true → P ≡ base + (N - 1 - trackerPlace b)
-      → (P - (v - 0xFFF40)) % 0x40_0000 ≡ physPage b base N (holds (trackerPage (v - 0xFFF40)))
+module _ {b : List ℕ} {ram : PageRange} (fits : Fits b ram) where
+  tracker-phys : (v P : ℕ) → inTracker (trackerPages b (ram .pages)) v ≡ true → P ≡ ram .base + (ram .pages - 1 - trackerPlace b)
+      → (P - (v - 0xFFF40)) % 0x40_0000 ≡ physPage b ram (holds (trackerPage (v - 0xFFF40)))
   unfolding inTracker pagesNeeded uses
   tracker-phys v P c e =
-      let T : ℕ = trackerPages b N in
+      let T : ℕ = trackerPages b (ram .pages) in
       let from : 0xFFF40 ≤ v = leb-true _ _ (and-left _ _ c) in
       let to : v < 0xFFF40 + T = ltb-true _ _ (and-right (leb 0xFFF40 v) _ c) in
       let a = place-tracker b T (v - 0xFFF40) (omega arith) in
       phys-mod fits _ _ _ a (omega (arith, fits .enough, a .inside))
 
-  pub tracker-some : 1 ≤ trackerPages b N
+  pub tracker-some : 1 ≤ trackerPages b (ram .pages)
   unfolding trackerPages pagesFor
   tracker-some = omega (arith, tracker-room fits)
 
   pub kernel-is : (place T copy first list : ℕ) (e₁ e₂ e₃ e₄ : List ℕ)
       → place ≡ trackerPlace b
-      → T ≡ trackerPages b N
-      → first ≡ base + (N - 1 - place)
-      → list ≡ base + (N - 1 - (place + T))
-      → copy ≡ base + (N - 1 - (place + T + 1))
-      → e₁ ≡ entriesOf (physPage b base N) (λ v. sectionAtPage b 1 v false) 1023
-      → e₂ ≡ pagesMapped e₁ 1023 0xFFF00 0xFFF00 copy false false false
-      → e₃ ≡ pagesMapped e₂ 1023 0xFFF40 (0xFFF40 + (T - 1)) first true false false
-      → e₄ ≡ pagesMapped e₃ 1023 0xFFF80 0xFFF80 list false false false
-      → e₄ ≡ entriesOf (physPage b base N) (kernelPage b (trackerPages b N)) 1023
+      → T ≡ trackerPages b (ram .pages)
+      → first ≡ ram .base + (ram .pages - 1 - place)
+      → list ≡ ram .base + (ram .pages - 1 - (place + T))
+      → copy ≡ ram .base + (ram .pages - 1 - (place + T + 1))
+      → e₁ ≡ entriesOf (physPage b ram) (sectionAtPage b 1) 1023
+      → e₂ ≡ pagesMapped e₁ 1023 0xFFF00 0xFFF00 copy kernelRead
+      → e₃ ≡ pagesMapped e₂ 1023 0xFFF40 (0xFFF40 + (T - 1)) first kernelWrite
+      → e₄ ≡ pagesMapped e₃ 1023 0xFFF80 0xFFF80 list kernelRead
+      → e₄ ≡ entriesOf (physPage b ram) (kernelPage b (trackerPages b (ram .pages))) 1023
   unfolding kernelPage entryFor
   kernel-is place T copy first list e₁ e₂ e₃ e₄ at-place pages at-first at-list at-copy p₁ p₂ p₃ p₄ =
-      let K : ℕ = trackerPages b N in
-      let phys : Use → ℕ = physPage b base N in
-      let sections : ℕ → Mapping = λ v. sectionAtPage b 1 v false in
-      let copied : ℕ → Mapping = λ v. choose (eqb v 0xFFF00) (maps blockCopy false false false) (sections v) in
-      let tracked : ℕ → Mapping = λ v. choose (inTracker K v) (maps (trackerPage (v - 0xFFF40)) true false false) (copied v) in
+      let K : ℕ = trackerPages b (ram .pages) in
+      let phys : Use → ℕ = physPage b ram in
+      let sections : ℕ → Mapping = sectionAtPage b 1 in
+      let copied : ℕ → Mapping = λ v. choose (eqb v 0xFFF00) (maps blockCopy kernelRead) (sections v) in
+      let tracked : ℕ → Mapping = λ v. choose (inTracker K v) (maps (trackerPage (v - 0xFFF40)) kernelWrite) (copied v) in
       let q₂ : e₂ ≡ entriesOf phys copied 1023
-      = p₂ ∙ page-over phys 1023 sections 0xFFF00 copy blockCopy false false false e₁ p₁ (phys-mod fits _ _ copy (place-block-copy b K) (omega arith)) in
+      = p₂ ∙ page-over phys 1023 sections 0xFFF00 copy blockCopy kernelRead e₁ p₁ (phys-mod fits _ _ copy (place-block-copy b K) (omega arith)) in
       let q₃ : e₃ ≡ entriesOf phys tracked 1023
-      = p₃ ∙ rw pages (pages-over phys 1023 copied (λ v. maps (trackerPage (v - 0xFFF40)) true false false) 0xFFF40 (0xFFF40 + (K - 1)) first true false false (inTracker K) e₂ q₂
+      = p₃ ∙ rw pages (pages-over phys 1023 copied (λ v. maps (trackerPage (v - 0xFFF40)) kernelWrite) 0xFFF40 (0xFFF40 + (K - 1)) first kernelWrite (inTracker K) e₂ q₂
       (λ v. tracker-test K v tracker-some) (λ v c. rw (tracker-phys v first c (omega arith)))) in
-      p₄ ∙ page-over phys 1023 tracked 0xFFF80 list processList false false false e₃ q₃ (phys-mod fits _ _ list (place-process-list b K) (omega arith))
+      p₄ ∙ page-over phys 1023 tracked 0xFFF80 list processList kernelRead e₃ q₃ (phys-mod fits _ _ list (place-process-list b K) (omega arith))
 
-pub user-is : (phys : Use → ℕ) (b : List ℕ) (q m : ℕ) (e : List ℕ) {e′ : List ℕ} → e ≡ entriesOf phys (λ v. sectionAtPage b q v true) m → e′ ≡ stackReserved e m
-    → e′ ≡ entriesOf phys (userPage b q) m
-unfolding userPage stackReserved entryFor
-user-is phys b q m e p r = r ∙ over phys m (λ v. sectionAtPage b q v true) (λ _. stack) inStack (λ _. reservedEntry) e p (λ i _ _. refl)
+pub user-is : (phys : Use → ℕ) (b : List ℕ) (q m : ℕ) (e : List ℕ) {e′ : List ℕ} → {pages : ℕ} → e ≡ entriesOf phys (sectionAtPage b q) m
+    → pages ≡ stackPages b q → e′ ≡ stackReserved e m pages → e′ ≡ entriesOf phys (userPage b q) m
+unfolding userPage entryFor
+user-is phys b q m e p s r =
+    r ∙ rw s (stack-reserved b q e m ∙ over phys m (sectionAtPage b q) (λ _. stack) (inStack b q) (λ _. reservedEntry) e p (λ i _ _. refl))
 
 pub leaf-kernel : (phys : Use → ℕ) (b : List ℕ) (T q m : ℕ) {e : List ℕ} → m ≡ 1023 → e ≡ entriesOf phys (kernelPage b T) 1023 → e ≡ tab 1024 (leafEntry b T phys q m)
 unfolding entriesOf leafEntry mappingAt

@@ -8,25 +8,24 @@ use borrow.Rule.Slice.PartMut.{putMid, midOf}
 use Rattle.notation.specs.Lists.{tab}
 use Rattle.notation.specs.Words.{byteOf}
 use Rattle.laws.specs.Lists.{tab-length, tab-get, tab-same}
+use Rattle.types.specs.declared.PageRange.{PageRange}
 use Rattle.rules.specs.Block.{processCount, entryPoint}
-use Rattle.rules.specs.Space.{processList}
-use Rattle.rules.specs.Order.{rootTable, holds, tableUses, trackerPages}
-use Rattle.rules.specs.Contents.{stackPointer, processWord, processListByte, dataByte}
-use Rattle.rules.specs.Load.{physPage, satpWord, pageByte}
-use Rattle.placement.specs.Places.{trackerPlace, tableCount, rootPlace, tables-before-none, tables-before-next, table-uses-length, place-root, ram-page-at}
-use Rattle.placement.specs.Room.{needed-parts, tables-room}
+use Rattle.rules.specs.Order.{rootTable, tableUses, trackerPages}
+use Rattle.rules.specs.Contents.{stackPointer, processWord, processListByte}
+use Rattle.rules.specs.Load.{physPage, satpWord}
+use Rattle.order_laws.specs.Places.{trackerPlace, tableCount, rootPlace, tables-before-none, tables-before-next, table-uses-length, place-root, ram-page-at}
+use Rattle.order_laws.specs.Room.{needed-parts, tables-room}
 use Rattle.word_stores.specs.Words.{withWord}
 use Rattle.stores.proofs.Written.{Written, written-then, written-same, below-bound, chosen-is}
 use Rattle.word_stores.proofs.Words.{wordOf, with-word-written}
-use Rattle.writing.specs.Pages.{put, put-same, put-part}
-use Rattle.writing.specs.Loaded.{content}
-use Rattle.demands.specs.Boot.{Fits}
+use Rattle.writing.specs.Pages.{put, put-part}
+use Rattle.accepted.specs.Fits.{Fits}
 
 -- ROOTS
-module _ {b : List ℕ} {base N : ℕ} (f : Fits b base N) where
+module _ {b : List ℕ} {ram : PageRange} (f : Fits b ram) where
   -- the place after the tables of i processes
   abbrev rootAfter : ℕ → ℕ
-  rootAfter i = rootPlace b (trackerPages b N) (i + 1)
+  rootAfter i = rootPlace b (trackerPages b (ram .pages)) (i + 1)
 
   pub root-next : (i : ℕ) {place count : ℕ} → place ≡ rootAfter i → count ≡ length (tableUses b (i + 1)) → place + count ≡ rootAfter (i + 1)
   unfolding rootPlace
@@ -35,29 +34,29 @@ module _ {b : List ℕ} {base N : ℕ} (f : Fits b base N) where
       let s : i + 1 + 1 - 1 ≡ i + 1 = omega arith in
       rw (e, c, z, s) (omega (arith, tables-before-next b i, table-uses-length b (i + 1)))
 
-  pub tables-fit : (i : ℕ) {place count : ℕ} → i < processCount b → place ≡ rootAfter i → count ≡ length (tableUses b (i + 1)) → place + count ≤ N
-  tables-fit i h e c = omega (arith, tables-room b N (i + 1) (f .enough) (omega arith) (omega arith), table-uses-length b (i + 1))
+  pub tables-fit : (i : ℕ) {place count : ℕ} → i < processCount b → place ≡ rootAfter i → count ≡ length (tableUses b (i + 1)) → place + count ≤ ram .pages
+  tables-fit i h e c = omega (arith, tables-room b (ram .pages) (i + 1) (f .enough) (omega arith) (omega arith), table-uses-length b (i + 1))
 
-  pub root-fits : (i : ℕ) {place : ℕ} → i < processCount b → place ≡ rootAfter i → place < N
+  pub root-fits : (i : ℕ) {place : ℕ} → i < processCount b → place ≡ rootAfter i → place < ram .pages
   unfolding tableCount
   root-fits i h e = omega (arith, tables-fit i h e refl, table-uses-length b (i + 1))
 
   -- satp, from the place of the root
-  pub satp-is : (i : ℕ) {place root : ℕ} → i < processCount b → place ≡ rootAfter i → root ≡ base + (N - 1 - place)
-      → 0x8000_0000 + 0x40_0000 * (i + 1) + root ≡ satpWord b base N (i + 1)
+  pub satp-is : (i : ℕ) {place root : ℕ} → i < processCount b → place ≡ rootAfter i → root ≡ ram .base + (ram .pages - 1 - place)
+      → 0x8000_0000 + 0x40_0000 * (i + 1) + root ≡ satpWord b ram (i + 1)
   unfolding satpWord physPage
   satp-is i h e r =
-      let p = ram-page-at b N (rootTable (i + 1)) _ (place-root b (trackerPages b N) (i + 1) (omega arith) (omega arith)) in
+      let p = ram-page-at b (ram .pages) (rootTable (i + 1)) _ (place-root b (trackerPages b (ram .pages)) (i + 1) (omega arith) (omega arith)) in
       rw (r, e, p) refl
 
-  module _ {left : ℕ} (e : left ≡ N - (trackerPlace b + trackerPages b N)) where
+  module _ {left : ℕ} (e : left ≡ ram .pages - (trackerPlace b + trackerPages b (ram .pages))) where
     -- the list's page is inside RAM of n bytes, which has the pages that are left
     pub list-fits : {k n : ℕ} → k ≡ left - 1 → 4096 * left ≤ n → k * 4096 + 4096 ≤ n
-    list-fits p h = omega (arith, f .enough, needed-parts b N)
+    list-fits p h = omega (arith, f .enough, needed-parts b (ram .pages))
 
-    pub first-root : N - left + 2 ≡ rootPlace b (trackerPages b N) 1
+    pub first-root : ram .pages - left + 2 ≡ rootPlace b (trackerPages b (ram .pages)) 1
     unfolding rootPlace
-    first-root = omega (arith, f .enough, needed-parts b N, tables-before-none b)
+    first-root = omega (arith, f .enough, needed-parts b (ram .pages), tables-before-none b)
 
 -- WORDS
 -- three words, one after the other
@@ -112,10 +111,7 @@ pub page-long : (x : ℕ) (r : List ℕ) → x + 4096 ≤ length r → 192 ≤ l
 page-long x r h = simp (length-take, length-drop) (omega arith)
 
 -- page k of RAM, lent whole, comes back as the list
-pub list-page : (b flash : List ℕ) (base N k j : ℕ) (r p : List ℕ) → k * 4096 + 4096 ≤ length r → k ≡ j
-    → p ≡ tab (length (midOf (k * 4096) (k * 4096 + 4096 - k * 4096) r)) (processListByte b (satpWord b base N))
-    → putMid (k * 4096) (k * 4096 + 4096 - k * 4096) r p ≡ put r j (content b flash base N (holds processList))
-unfolding content pageByte dataByte
-list-page b flash base N k j r p h e q =
-    put-part r p k (k * 4096) (k * 4096 + 4096) (processListByte b (satpWord b base N)) (omega arith) (omega arith) q
-    ∙ rw e (put-same r j _ _ (λ o _. refl))
+pub list-page : (b : List ℕ) (satp : ℕ → ℕ) (k j : ℕ) (r p : List ℕ) → k * 4096 + 4096 ≤ length r → k ≡ j
+    → p ≡ tab (length (midOf (k * 4096) (k * 4096 + 4096 - k * 4096) r)) (processListByte b satp)
+    → putMid (k * 4096) (k * 4096 + 4096 - k * 4096) r p ≡ put r j (processListByte b satp)
+list-page b satp k j r p h e q = put-part r p k (k * 4096) (k * 4096 + 4096) (processListByte b satp) (omega arith) (omega arith) q ∙ rw e

@@ -1,5 +1,5 @@
 -- The tracker's bytes: the owner of each RAM page by its place in the order, and what the fills leave.
-use mathlib.Core.Path.{_≡_, refl, sym, _∙_}
+use mathlib.Core.Path.{_≡_, refl, sym, ap, _∙_}
 use mathlib.Core.List.{List, [], _∷_, _++_}
 use mathlib.Core.Option.{some}
 use Prim.Native.Nat.{ℕ, _+_, _-_, _*_, _≤_, _<_}
@@ -10,21 +10,23 @@ use lib.ListN.{length, getD, length-append, List·getD-eq-default}
 use Rattle.notation.specs.Choice.{choose}
 use Rattle.notation.specs.Lists.{tab, gather, lookup}
 use Rattle.laws.specs.Choice.{by-choose}
-use Rattle.laws.specs.Lists.{Every, every-append, every-tab, every-gather, tab-length, tab-get, tab-by, tab-same, tab-next, append-get-right, lookup-some, lookup-left, lookup-right, lookup-outside, lookup-gather, every-at}
+use Rattle.laws.specs.Lists.{Every, every-tab, every-gather, tab-length, tab-get, tab-by, tab-same, tab-next, append-get-right, lookup-some, lookup-left, lookup-right, lookup-outside, lookup-gather, every-at}
 use Rattle.laws.specs.Counts.{sum-le}
-use Rattle.rules.specs.Block.{processCount, ioPages}
+use Rattle.types.specs.declared.PageRange.{PageRange}
+use Rattle.rules.specs.Block.{processCount}
 use Rattle.rules.specs.Space.{trackerPage, processList, blockCopy}
-use Rattle.rules.specs.Order.{Use, top, holds, sectionUses, hasLeaf, tableUses, order, uses, trackerPages, pagesNeeded, useOf, dataOwner, useOwner, owner}
+use Rattle.rules.specs.Order.{Use, top, holds, sectionPages, sectionUses, trackerUses, hasLeaf, tableUses, order, uses, trackerPages, pagesNeeded, useOf, dataOwner, useOwner, owner}
 use Rattle.rules.specs.Contents.{tracker, dataByte}
 use Rattle.rules.specs.Load.{pageByte}
-use Rattle.demands.specs.Loaded.{tracker-byte}
-use Rattle.placement.specs.Places.{processPages, userPages, sectionPlace, trackerPlace, section-uses-length, user-uses-length, user-pages-next, order-count}
+use Rattle.accepted.specs.Tracker.{tracker-byte, tracker-io}
+use Rattle.accepted.specs.Fits.{Fits}
+use Rattle.order_laws.specs.Uses.{afterUsers, order-users, every-after-users}
+use Rattle.order_laws.specs.Places.{processPages, userPages, sectionPlace, trackerPlace, section-uses-length, user-uses-length, user-pages-next, order-count}
 use Rattle.writing.specs.Pages.{put}
-use Rattle.writing.specs.Uses.{writeUses, write-same, Wrote, wrote-page}
-use Rattle.writing.specs.Loaded.{content}
+use Rattle.writing.specs.Uses.{wrote-page}
+use Rattle.writing.specs.Loaded.{content, WroteAny, wrote-any, any-tab-next}
 use Rattle.stores.specs.Writes.{filled}
 use Rattle.stores.proofs.Written.{Written, between, chosen-written, written-same}
-use Rattle.loader.specs.Counted.{Counted}
 
 -- OWNERS BY PLACE
 -- place i of the list has a use of owner v
@@ -51,7 +53,7 @@ module _ (b : List ℕ) where
   Owns v l = Every (λ u. useOwner u ≡ v) l
 
   sections-owned : (q : ℕ) → Owns q (sectionUses b q)
-  unfolding sectionUses useOwner dataOwner
+  unfolding sectionUses sectionPages useOwner dataOwner
   sections-owned q = every-gather _ _ _ (λ j _. every-tab _ _ _ (λ i _. refl))
 
   tables-owned : (q : ℕ) → Owns 1 (tableUses b q)
@@ -59,21 +61,9 @@ module _ (b : List ℕ) where
   tables-owned q = (refl, every-gather _ 1024 _ (λ m _. by-choose (Owns 1) (hasLeaf b q m) _ _ (λ _. (refl, tt)) (λ _. tt)))
 
   module _ (T : ℕ) where
-    -- what follows the users' sections
-    abbrev afterUsers : List Use
-    afterUsers =
-        sectionUses b 1
-        ++ (tab T (λ i. holds (trackerPage i))
-        ++ (holds processList
-        ∷ holds blockCopy
-        ∷ gather (processCount b) (λ i. tableUses b (i + 1))))
-
-    after-owned : Owns 1 afterUsers
+    after-owned : Owns 1 (afterUsers b T)
     unfolding useOwner dataOwner
-    after-owned =
-        every-append _ (sectionUses b 1) _ (sections-owned 1)
-        (every-append _ (tab T _) _ (every-tab _ T _ (λ i _. refl))
-        (refl, (refl, every-gather _ _ _ (λ i _. tables-owned (i + 1)))))
+    after-owned = every-after-users (λ u. useOwner u ≡ 1) b T (sections-owned 1) (λ i. refl) refl refl tables-owned
 
     owned-top : (i : ℕ) → i < 4 → Owned (order b T) i 1
     unfolding order useOwner
@@ -81,20 +71,18 @@ module _ (b : List ℕ) where
 
     -- section page i of process t + 2
     owned-user : (t i : ℕ) → t < processCount b - 1 → i < processPages b (t + 2) → Owned (order b T) (4 + (userPages b t + i)) (t + 2)
-    unfolding order
     owned-user t i h l =
-        owned-right (tab 4 top) 4 _ (tab-length 4 top) refl
+        rw (order-users b T) (owned-right (tab 4 top) 4 _ (tab-length 4 top) refl
         (owned-left _ (rw (user-uses-length b t) at (owned-gather (processCount b - 1) (λ i. sectionUses b (i + 2)) t h
-        (owned-all (sectionUses b (t + 2)) i (t + 2) (sections-owned (t + 2)) (rw section-uses-length l)))))
+        (owned-all (sectionUses b (t + 2)) i (t + 2) (sections-owned (t + 2)) (rw section-uses-length l))))))
 
     owned-rest : (i : ℕ) → 4 + userPages b (processCount b - 1) ≤ i → i < length (order b T) → Owned (order b T) i 1
-    unfolding order
     owned-rest i h l =
         let u : ℕ = userPages b (processCount b - 1) in
-        let n : length (order b T) ≡ 4 + (u + length afterUsers) = simp (length-append, tab-length, user-uses-length) in
-        owned-right (tab 4 top) {i = u + (i - (4 + u))} 4 _ (tab-length 4 top) (omega arith)
+        let n : length (order b T) ≡ 4 + (u + length (afterUsers b T)) = rw (order-users b T) (simp (length-append, tab-length, user-uses-length)) in
+        rw (order-users b T) (owned-right (tab 4 top) {i = u + (i - (4 + u))} 4 _ (tab-length 4 top) (omega arith)
         (owned-right (gather _ _) u _ (user-uses-length b _) refl
-        (owned-all afterUsers (i - (4 + u)) 1 after-owned (omega arith)))
+        (owned-all (afterUsers b T) (i - (4 + u)) 1 after-owned (omega arith))))
 
 -- BYTES
 -- byte k of the tracker for RAM of N pages
@@ -111,11 +99,6 @@ zero-byte n k = elim (decLt k n) [
 ]
 
 module _ (b : List ℕ) (N : ℕ) where
-  -- after RAM's pages
-  io-byte : (k : ℕ) → N ≤ k → trackerByte b N k ≡ 0
-  unfolding tracker
-  io-byte k h = append-get-right (tab N (λ k. owner (useOf b N k))) _ N k 0 (tab-length N _) h ∙ zero-byte (ioPages b) (k - N)
-
   free-byte : (k : ℕ) → k < N - pagesNeeded b N → trackerByte b N k ≡ 0
   unfolding useOf pagesNeeded owner
   free-byte k h = tracker-byte b N k (omega arith) ∙ rw (lookup-outside (uses b N) (N - 1 - k) (omega arith))
@@ -127,13 +110,13 @@ module _ (b : List ℕ) (N : ℕ) where
       tracker-byte b N k (omega arith) ∙ rw (z, o .found) (o .owned)
 
 -- the section pages of user processes are among those needed
-pub users-fit : {b : List ℕ} {N needed : ℕ} (t : ℕ) → Counted b N needed → t ≤ processCount b - 1 → 4 + userPages b t ≤ needed
+pub users-fit : {b : List ℕ} {ram : PageRange} {needed : ℕ} (t : ℕ) → Fits b ram → needed ≡ pagesNeeded b (ram .pages) → t ≤ processCount b - 1 → 4 + userPages b t ≤ needed
 unfolding pagesNeeded uses trackerPlace sectionPlace choose userPages
-users-fit {b} {N} t c h = omega (arith, c .needed-is, order-count b (trackerPages b N), sum-le t (processCount b - 1) (λ i. processPages b (i + 2)) h)
+users-fit {b} {ram} t c n h = omega (arith, n, order-count b (trackerPages b (ram .pages)), sum-le t (processCount b - 1) (λ i. processPages b (i + 2)) h)
 
-pub user-fits : {b : List ℕ} {N needed count : ℕ} (t : ℕ) → Counted b N needed → t < processCount b - 1 → count ≡ processPages b (t + 2)
-    → 4 + userPages b t + count ≤ N
-user-fits {b} t c h e = omega (arith, users-fit (t + 1) c (omega arith), user-pages-next b t, c .enough)
+pub user-fits : {b : List ℕ} {ram : PageRange} {needed count : ℕ} (t : ℕ) → Fits b ram → needed ≡ pagesNeeded b (ram .pages) → t < processCount b - 1 → count ≡ processPages b (t + 2)
+    → 4 + userPages b t + count ≤ ram .pages
+user-fits {b} t c n h e = omega (arith, users-fit (t + 1) c n (omega arith), user-pages-next b t, c .enough)
 
 -- FILLS
 filled-written : (d : List ℕ) (from to v : ℕ) → from ≤ to → Written (λ k. v) from to d (filled d from to v)
@@ -153,47 +136,47 @@ written-below {b = b} v w h l = record {
 }
 
 -- the pages of one process more
-pub track-turn : {b : List ℕ} {N needed t start end count : ℕ} {d₀ d e : List ℕ} → Counted b N needed → t < processCount b - 1
-    → end ≡ N - 4 - userPages b t
-    → Written (trackerByte b N) end (N - 4) d₀ d
+pub track-turn : {b : List ℕ} {ram : PageRange} {needed t start end count : ℕ} {d₀ d e : List ℕ} → Fits b ram → needed ≡ pagesNeeded b (ram .pages) → t < processCount b - 1
+    → end ≡ ram .pages - 4 - userPages b t
+    → Written (trackerByte b (ram .pages)) end (ram .pages - 4) d₀ d
     → count ≡ processPages b (t + 2)
     → start ≡ end - count
     → e ≡ filled d start end (t + 2)
-    → (start ≡ N - 4 - userPages b (t + 1)) × Written (trackerByte b N) start (N - 4) d₀ e
-track-turn {b} {N} {needed} {t} {start} {end} {count} {d = d} c h ee w ec es ed =
+    → (start ≡ ram .pages - 4 - userPages b (t + 1)) × Written (trackerByte b (ram .pages)) start (ram .pages - 4) d₀ e
+track-turn {b} {ram} {needed} {t} {start} {end} {count} {d = d} c n h ee w ec es ed =
     let u : userPages b (t + 1) ≡ userPages b t + count = rw ec (user-pages-next b t) in
-    let f : 4 + userPages b t + count ≤ N = user-fits t c h ec in (
+    let f : 4 + userPages b t + count ≤ ram .pages = user-fits t c n h ec in (
       omega arith,
       written-below w (rw ed (written-same (filled-written d start end (t + 2) (omega arith)) (λ k l m.
           let i : ℕ = end - 1 - k in
-          sym (owner-byte b N k (4 + (userPages b t + i)) (t + 2) (omega arith) (owned-user b (trackerPages b N) t i h (rw (← ec) (omega arith)))))))
+          sym (owner-byte b (ram .pages) k (4 + (userPages b t + i)) (t + 2) (omega arith) (owned-user b (trackerPages b (ram .pages)) t i h (rw (← ec) (omega arith)))))))
           (omega arith) (omega arith),
     )
 
-pub track-end : {b : List ℕ} {N needed t end : ℕ} (m : ℕ) {d₀ d₁ d : List ℕ} → Counted b N needed
+pub track-end : {b : List ℕ} {ram : PageRange} {needed t end : ℕ} (m : ℕ) {d₀ d₁ d : List ℕ} → Fits b ram → needed ≡ pagesNeeded b (ram .pages)
     → d₀ ≡ zeros m
-    → d₁ ≡ filled d₀ (N - needed) N 1
-    → end ≡ N - 4 - userPages b t
+    → d₁ ≡ filled d₀ (ram .pages - needed) (ram .pages) 1
+    → end ≡ ram .pages - 4 - userPages b t
     → t ≡ processCount b - 1
-    → Written (trackerByte b N) end (N - 4) d₁ d
-    → d ≡ tab m (trackerByte b N)
+    → Written (trackerByte b (ram .pages)) end (ram .pages - 4) d₁ d
+    → d ≡ tab m (trackerByte b (ram .pages))
 unfolding pagesNeeded uses
-track-end {b} {N} {needed} {t} {end} m {d₀} {d₁} {d} c e₀ e₁ ee et w =
-    let v : Written (λ k. 1) (N - needed) N d₀ d₁ = rw e₁ (filled-written d₀ (N - needed) N 1 (omega arith)) in
+track-end {b} {ram} {needed} {t} {end} m {d₀} {d₁} {d} c is e₀ e₁ ee et w =
+    let v : Written (λ k. 1) (ram .pages - needed) (ram .pages) d₀ d₁ = rw e₁ (filled-written d₀ (ram .pages - needed) (ram .pages) 1 (omega arith)) in
     let n : length d₀ ≡ m = rw e₀ (tab-length m _) in
     let z : (k : ℕ) → getD d₀ k 0 ≡ 0 = λ k. rw e₀ (zero-byte m k) in
-    let f : 4 + userPages b t ≤ needed = users-fit t c (omega arith) in
+    let f : 4 + userPages b t ≤ needed = users-fit t c is (omega arith) in
     tab-by m _ 0 d (w .size ∙ v .size ∙ n) (λ k h. elim (decLt k end) [
-      | yes l ↦ w .below k l ∙ elim (decLt k (N - needed)) [
-        | yes g ↦ v .below k g ∙ z k ∙ sym (free-byte b N k (omega (arith, c .needed-is)))
+      | yes l ↦ w .below k l ∙ elim (decLt k (ram .pages - needed)) [
+        | yes g ↦ v .below k g ∙ z k ∙ sym (free-byte b (ram .pages) k (omega (arith, is)))
         | no g ↦ v .inside k (omega arith) (omega arith) (omega arith)
-            ∙ sym (owner-byte b N k (N - 1 - k) 1 (omega arith) (owned-rest b (trackerPages b N) (N - 1 - k) (rw (← et) (omega arith)) (omega (arith, c .needed-is, c .enough))))
+            ∙ sym (owner-byte b (ram .pages) k (ram .pages - 1 - k) 1 (omega arith) (owned-rest b (trackerPages b (ram .pages)) (ram .pages - 1 - k) (rw (← et) (omega arith)) (omega (arith, is, c .enough))))
       ]
-      | no l ↦ elim (decLt k (N - 4)) [
+      | no l ↦ elim (decLt k (ram .pages - 4)) [
         | yes g ↦ w .inside k (omega arith) g (omega (arith, v .size))
-        | no g ↦ w .above k (omega arith) ∙ elim (decLt k N) [
-          | yes r ↦ v .inside k (omega arith) r (omega arith) ∙ sym (owner-byte b N k (N - 1 - k) 1 (omega arith) (owned-top b _ (N - 1 - k) (omega arith)))
-          | no r ↦ v .above k (omega arith) ∙ z k ∙ sym (io-byte b N k (omega arith))
+        | no g ↦ w .above k (omega arith) ∙ elim (decLt k (ram .pages)) [
+          | yes r ↦ v .inside k (omega arith) r (omega arith) ∙ sym (owner-byte b (ram .pages) k (ram .pages - 1 - k) 1 (omega arith) (owned-top b _ (ram .pages - 1 - k) (omega arith)))
+          | no r ↦ v .above k (omega arith) ∙ z k ∙ sym (tracker-io b (ram .pages) k (omega arith))
         ]
       ]
     ])
@@ -204,28 +187,24 @@ pub first-page : (b : List ℕ) (N i m : ℕ) {d : List ℕ} → i ≡ 0 → d �
 first-page b N i m z e = e ∙ tab-same m _ _ 0 (λ o _. let s : 4096 * i + o ≡ o = omega arith in rw s)
 
 pub later-page : (b : List ℕ) (N i m : ℕ) {d : List ℕ} → N ≤ 4096 → (i ≡ 0 → ⊥) → d ≡ zeros m → d ≡ tab m (λ o. trackerByte b N (4096 * i + o))
-later-page b N i m h n e = e ∙ tab-same m _ _ 0 (λ o _. sym (io-byte b N (4096 * i + o) (omega arith)))
+later-page b N i m h n e = e ∙ tab-same m _ _ 0 (λ o _. sym (tracker-io b N (4096 * i + o) (omega arith)))
 
 -- the tracker's pages are among those needed
-pub tracker-fits : {b : List ℕ} {N needed : ℕ} → Counted b N needed → trackerPages b N ≤ N
+pub tracker-fits : {b : List ℕ} {ram : PageRange} → Fits b ram → trackerPages b (ram .pages) ≤ ram .pages
 unfolding pagesNeeded uses
-tracker-fits {b} {N} c = omega (arith, c .needed-is, c .enough, order-count b (trackerPages b N))
-
-abbrev pub trackerUses : ℕ → List Use
-trackerUses n = tab n (λ i. holds (trackerPage i))
+tracker-fits {b} {ram} f = omega (arith, f .enough, order-count b (trackerPages b (ram .pages)))
 
 -- one page more
-pub page-turn : (b : List ℕ) (N i : ℕ) {r₀ : List ℕ} {n₀ : ℕ} {r : List ℕ} {n : ℕ} {r′ : List ℕ} {n′ k : ℕ}
-    → Wrote (content b [] 0 N) (trackerUses i) r₀ n₀ r n
-    → n′ ≡ n - 1 → k ≡ n - 1 → r′ ≡ put r k (λ o. trackerByte b N (4096 * i + o))
-    → Wrote (content b [] 0 N) (trackerUses (i + 1)) r₀ n₀ r′ n′
+pub page-turn : (b : List ℕ) (ram : PageRange) (i : ℕ) {r₀ : List ℕ} {n₀ : ℕ} {r : List ℕ} {n : ℕ} {r′ : List ℕ} {n′ k : ℕ}
+    → WroteAny b ram (tab i (λ i. holds (trackerPage i))) r₀ n₀ r n
+    → n′ ≡ n - 1 → k ≡ n - 1 → r′ ≡ put r k (λ o. trackerByte b (ram .pages) (4096 * i + o))
+    → WroteAny b ram (tab (i + 1) (λ i. holds (trackerPage i))) r₀ n₀ r′ n′
 unfolding content pageByte dataByte
-page-turn b N i w l k p = rw (add-one, tab-next) (wrote-page (holds (trackerPage i)) _ w l k p (λ o _. refl))
+page-turn b ram i w l k p =
+    any-tab-next (λ i. holds (trackerPage i)) i w (wrote-any (λ flash. wrote-page (holds (trackerPage i)) _ l k p (λ o _. refl)))
 
--- the bytes depend on no flash and on no place of RAM
-pub tracker-end : (b : List ℕ) (N i : ℕ) {r₀ : List ℕ} {n₀ : ℕ} {r : List ℕ} {n : ℕ}
-    → Wrote (content b [] 0 N) (trackerUses i) r₀ n₀ r n → i ≡ trackerPages b N
-    → (n ≡ n₀ - trackerPages b N) × ((flash : List ℕ) (base : ℕ) → r ≡ writeUses (content b flash base N) r₀ n₀ (trackerUses (trackerPages b N)))
-unfolding content pageByte dataByte
-tracker-end b N i {r₀} {n₀} w e = rw (← e)
-    (omega (arith, w .left, tab-length i (λ i. holds (trackerPage i))), λ flash base. w .bytes ∙ write-same _ _ r₀ n₀ _ (every-tab _ i _ (λ j _ o _. refl)))
+pub tracker-end : (b : List ℕ) (ram : PageRange) (i : ℕ) {r₀ : List ℕ} {n₀ : ℕ} {r : List ℕ} {n : ℕ}
+    → WroteAny b ram (tab i (λ i. holds (trackerPage i))) r₀ n₀ r n → i ≡ trackerPages b (ram .pages)
+    → WroteAny b ram (trackerUses (trackerPages b (ram .pages))) r₀ n₀ r n
+unfolding trackerUses
+tracker-end b ram i w e = rw (← e) w

@@ -4,17 +4,18 @@ use mathlib.Core.Bool.{true}
 use mathlib.Core.List.{List, [], _∷_}
 use Prim.Native.Nat.{ℕ, _-_, _<_}
 use Rattle.notation.specs.Choice.{choose}
+use Rattle.types.specs.declared.PageRange.{PageRange}
 use Rattle.rules.specs.Order.{Use, leafTable, hasLeaf}
 use Rattle.rules.specs.Load.{physPage}
-use Rattle.placement.specs.Places.{leavesBelow}
+use Rattle.order_laws.specs.Places.{leavesBelow}
 
 -- the leaf table of process q for root slot m, if it has one
 unfoldable pub leafUses : List ℕ → ℕ → ℕ → List Use
 leafUses b q m = choose (hasLeaf b q m) (leafTable q m ∷ []) []
 
 -- the leaf tables of process q lie from physical page `first` downwards, and the kernel's is at `kernel`
-pub record LeavesAt (b : List ℕ) (base N q first kernel : ℕ) : Type 0 where
-  pub leaf : (m : ℕ) → m < 1024 → hasLeaf b q m ≡ true → physPage b base N (leafTable q m) ≡ first - leavesBelow b q m
+pub record LeavesAt (b : List ℕ) (ram : PageRange) (q first kernel : ℕ) : Type 0 where
+  pub leaf : (m : ℕ) → m < 1024 → hasLeaf b q m ≡ true → physPage b ram (leafTable q m) ≡ first - leavesBelow b q m
   pub small : first < 0x40_0000
-  pub kernel-leaf : kernel ≡ physPage b base N (leafTable 1 1023)
+  pub kernel-leaf : kernel ≡ physPage b ram (leafTable 1 1023)
   pub kernel-small : kernel < 0x40_0000

@@ -1,19 +1,23 @@
-// The entries of a leaf table, in RAM of `pages` pages from physical page `base` on. A place counts the uses before a use
-// in the order of pages.
+// The entries of a leaf table. A place counts the uses before a use in the order of pages.
 ghost use mathlib.Core.Bool.{true};
 ghost use mathlib.Core.Path.{_≡_};
 ghost use Prim.Native.Nat.{_≤_};
+ghost use Rattle.notation.specs.Choice.{choose};
 ghost use Rattle.notation.specs.Lists.{tab};
 ghost use Rattle.rules.specs.Block.{processCount};
-ghost use Rattle.rules.specs.Space.{sectionAtPage, kernelPage, userPage};
+ghost use Rattle.rules.specs.Space.{kernelRead, kernelWrite, sectionAtPage, kernelPage, userPage};
 ghost use Rattle.rules.specs.Order.{hasLeaf, trackerPages};
 ghost use Rattle.rules.specs.Tables.{leafEntry};
 ghost use Rattle.rules.specs.Load.{physPage};
-ghost use Rattle.demands.specs.Boot.{Fits};
-ghost use Rattle.loader.specs.LeafEntries.{entriesOf};
-use places::section_place;
-use places::tracker_place;
-use ram_pages::page_at;
+ghost use Rattle.accepted.specs.Fits.{Fits};
+ghost use Rattle.loader.specs.LeafEntries.{entriesOf, rightsOf};
+use block_records::Section;
+use order_places::section_place;
+use order_places::tracker_place;
+use page_allocator::page_at;
+use types::KERNEL_SLOT;
+use types::PageRange;
+use types::Rights;
 use types::VirtPage;
 
 // The virtual page of the block copy.
@@ -25,35 +29,49 @@ const TRACKER: u32 = 0xFFF40;
 // The virtual page of the process list.
 const PROCESS_LIST: u32 = 0xFFF80;
 
-// Maps the sections of process q in the leaf table for root slot m, whose entries are all absent.
-fn map_sections(
-    entries: &mut [u32],
-    block: &[u8],
-    base: u32,
-    pages: u32,
-    q: u32,
-    m: u32,
-    user: bool,
-)
-    requires { ⌜ Fits (now block) base pages × (1 ≤ q) × (q ≤ processCount (now block)) × (now entries ≡ tab 1024 (λ i. 0)) ⌝ }
-    ensures { λ _. ⌜ now (entries .exit) ≡ entriesOf (physPage (now (block .entry)) base pages) (λ v. sectionAtPage (now (block .entry)) q v user) m ⌝ }
+// The rights of a section of process q.
+fn section_rights(q: u32, section: Section) -> Rights
+    ensures { λ r. ⌜ r ≡ rightsOf q (section .writable) (section .executable) ⌝ }
 {
-    let process = records::read_process(block, q);
+    Rights {
+        read: true,
+        write: section.writable,
+        execute: section.executable,
+        user: q != 1,
+    }
+}
+
+// The rights of a page of the kernel's own that is no section's.
+fn kernel_rights(write: bool) -> Rights
+    ensures { λ r. ⌜ r ≡ choose write kernelWrite kernelRead ⌝ }
+{
+    Rights {
+        read: true,
+        write,
+        execute: false,
+        user: false,
+    }
+}
+
+// Maps the sections of process q in the leaf table for root slot m, whose entries are all absent.
+fn map_sections(entries: &mut [u32], block: &[u8], range: PageRange, q: u32, m: u32)
+    requires { ⌜ Fits (now block) range × (1 ≤ q) × (q ≤ processCount (now block)) × (now entries ≡ tab 1024 (λ i. 0)) ⌝ }
+    ensures { λ _. ⌜ now (entries .exit) ≡ entriesOf (physPage (now (block .entry)) range) (sectionAtPage (now (block .entry)) q) m ⌝ }
+{
+    let process = block_records::read_process(block, q);
     let first = process.first_section;
     let count = process.sections;
     let mut place = section_place(block, q);
     let mut j: u32 = 0;
     while j < count {
-        let section = records::read_section(block, first as usize + j as usize);
-        tables::map_pages(
+        let section = block_records::read_section(block, first as usize + j as usize);
+        sv32_tables::map_pages(
             entries,
             m,
             section.first_page,
             section.last_page,
-            page_at(base, pages, place),
-            section.writable,
-            section.executable,
-            user,
+            page_at(range, place),
+            section_rights(q, section),
         );
         place += section.pages;
         j += 1;
@@ -62,43 +80,43 @@ fn map_sections(
 
 // The kernel's leaf table: its sections, over them the block copy, then the tracker, and last the process list, which a
 // tracker of over 64 pages would reach.
-fn kernel_entries(entries: &mut [u32], block: &[u8], base: u32, pages: u32)
-    requires { ⌜ Fits (now block) base pages × (now entries ≡ tab 1024 (λ i. 0)) ⌝ }
-    ensures { λ _. ⌜ now (entries .exit) ≡ entriesOf (physPage (now (block .entry)) base pages) (kernelPage (now (block .entry)) (trackerPages (now (block .entry)) pages)) 1023 ⌝ }
+fn kernel_entries(entries: &mut [u32], block: &[u8], range: PageRange)
+    requires { ⌜ Fits (now block) range × (now entries ≡ tab 1024 (λ i. 0)) ⌝ }
+    ensures { λ _. ⌜ now (entries .exit) ≡ entriesOf (physPage (now (block .entry)) range) (kernelPage (now (block .entry)) (trackerPages (now (block .entry)) (range .pages))) 1023 ⌝ }
 {
     let place = tracker_place(block);
-    let count = tracker_size::tracker_pages(block, pages) as u32;
-    let tracker = page_at(base, pages, place);
-    let list = page_at(base, pages, place + count);
-    let copy = page_at(base, pages, place + count + 1);
-    map_sections(entries, block, base, pages, 1, 1023, false);
+    let count = order_tracker::tracker_pages(block, range.pages) as u32;
+    let tracker = page_at(range, place);
+    let list = page_at(range, place + count);
+    let copy = page_at(range, place + count + 1);
+    map_sections(entries, block, range, 1, KERNEL_SLOT);
     let at = VirtPage(BLOCK_COPY);
-    tables::map_pages(entries, 1023, at, at, copy, false, false, false);
+    sv32_tables::map_pages(entries, KERNEL_SLOT, at, at, copy, kernel_rights(false));
     let from = VirtPage(TRACKER);
     let to = VirtPage(TRACKER + (count - 1));
-    tables::map_pages(entries, 1023, from, to, tracker, true, false, false);
+    sv32_tables::map_pages(entries, KERNEL_SLOT, from, to, tracker, kernel_rights(true));
     let at = VirtPage(PROCESS_LIST);
-    tables::map_pages(entries, 1023, at, at, list, false, false, false);
+    sv32_tables::map_pages(entries, KERNEL_SLOT, at, at, list, kernel_rights(false));
 }
 
 // A user process's leaf table for root slot m: its sections, and over them the stack reservation.
-fn user_entries(entries: &mut [u32], block: &[u8], base: u32, pages: u32, q: u32, m: u32)
-    requires { ⌜ Fits (now block) base pages × (1 ≤ q) × (q ≤ processCount (now block)) × (now entries ≡ tab 1024 (λ i. 0)) ⌝ }
-    ensures { λ _. ⌜ now (entries .exit) ≡ entriesOf (physPage (now (block .entry)) base pages) (userPage (now (block .entry)) q) m ⌝ }
+fn user_entries(entries: &mut [u32], block: &[u8], range: PageRange, q: u32, m: u32)
+    requires { ⌜ Fits (now block) range × (1 ≤ q) × (q ≤ processCount (now block)) × (now entries ≡ tab 1024 (λ i. 0)) ⌝ }
+    ensures { λ _. ⌜ now (entries .exit) ≡ entriesOf (physPage (now (block .entry)) range) (userPage (now (block .entry)) q) m ⌝ }
 {
-    map_sections(entries, block, base, pages, q, m, true);
-    tables::reserve_stack(entries, m);
+    map_sections(entries, block, range, q, m);
+    sv32_tables::reserve_stack(entries, m, block_records::stack_pages(block, q));
 }
 
 // The leaf table of process q for root slot m, from entries that are all absent. In slot 1,023 every process has the
 // kernel's mapping.
-pub(crate) fn leaf_entries(entries: &mut [u32], block: &[u8], base: u32, pages: u32, q: u32, m: u32)
-    requires { ⌜ Fits (now block) base pages × (1 ≤ q) × (q ≤ processCount (now block)) × (hasLeaf (now block) q m ≡ true) × (now entries ≡ tab 1024 (λ i. 0)) ⌝ }
-    ensures { λ _. ⌜ now (entries .exit) ≡ tab 1024 (leafEntry (now (block .entry)) (trackerPages (now (block .entry)) pages) (physPage (now (block .entry)) base pages) q m) ⌝ }
+pub(crate) fn leaf_entries(entries: &mut [u32], block: &[u8], range: PageRange, q: u32, m: u32)
+    requires { ⌜ Fits (now block) range × (1 ≤ q) × (q ≤ processCount (now block)) × (hasLeaf (now block) q m ≡ true) × (now entries ≡ tab 1024 (λ i. 0)) ⌝ }
+    ensures { λ _. ⌜ now (entries .exit) ≡ tab 1024 (leafEntry (now (block .entry)) (trackerPages (now (block .entry)) (range .pages)) (physPage (now (block .entry)) range) q m) ⌝ }
 {
-    if m == 1023 {
-        kernel_entries(entries, block, base, pages);
+    if m == KERNEL_SLOT {
+        kernel_entries(entries, block, range);
         return;
     }
-    user_entries(entries, block, base, pages, q, m);
+    user_entries(entries, block, range, q, m);
 }

@@ -1,21 +1,19 @@
 // The process list: three words for each process: satp, entry point, stack pointer.
-ghost use mathlib.Core.List.{List};
 ghost use mathlib.Core.Path.{_≡_};
-ghost use Prim.Native.Nat.{ℕ, _+_, _-_, _*_, _≤_, _<_};
+ghost use Prim.Native.Nat.{_+_, _-_, _*_, _≤_, _<_};
 ghost use lib.ListN.{length};
 ghost use Rattle.notation.specs.Lists.{tab};
 ghost use Rattle.rules.specs.Block.{entryPoint};
-ghost use Rattle.rules.specs.Space.{processList};
-ghost use Rattle.rules.specs.Order.{holds, trackerPages};
+ghost use Rattle.rules.specs.Order.{trackerPages};
 ghost use Rattle.rules.specs.Contents.{stackPointer, processListByte};
 ghost use Rattle.rules.specs.Load.{satpWord};
 ghost use Rattle.word_stores.specs.Words.{withWord};
-ghost use Rattle.placement.specs.Places.{trackerPlace, rootPlace};
+ghost use Rattle.order_laws.specs.Places.{trackerPlace, rootPlace};
 ghost use Rattle.writing.specs.Pages.{put};
-ghost use Rattle.writing.specs.Loaded.{content};
-ghost use Rattle.demands.specs.Boot.{Fits};
-use ram_pages::PageAllocator;
-use ram_pages::page_at;
+ghost use Rattle.accepted.specs.Fits.{Fits};
+use page_allocator::PageAllocator;
+use page_allocator::page_at;
+use types::PageRange;
 use types::PhysPage;
 
 // The stack pointer that process q starts with.
@@ -36,7 +34,7 @@ fn put_process(page: &mut [u8], block: &[u8], q: u32, root: PhysPage)
         (12 * (q - 1) + 4) (entryPoint (now (block .entry)) q))
         (12 * (q - 1) + 8) (stackPointer q) ⌝ }
 {
-    let process = records::read_process(block, q);
+    let process = block_records::read_process(block, q);
     let at = 12 * (q as usize - 1);
     word_stores::put_word(page, at, 0x8000_0000 + 0x40_0000 * q + root.0);
     word_stores::put_word(page, at + 4, process.entry_point);
@@ -45,18 +43,18 @@ fn put_process(page: &mut [u8], block: &[u8], q: u32, root: PhysPage)
 
 // The whole list. `first` is the place of the kernel's root table in the order of pages; each root is followed by the leaf
 // tables of its process.
-fn list_processes(page: &mut [u8], block: &[u8], base: u32, pages: u32, first: u32)
-    requires { ⌜ Fits (now block) base pages × (first ≡ rootPlace (now block) (trackerPages (now block) pages) 1) × (192 ≤ length (now page)) ⌝ }
-    ensures { λ _. ⌜ now (page .exit) ≡ tab (length (now (page .entry))) (processListByte (now (block .entry)) (satpWord (now (block .entry)) base pages)) ⌝ }
+fn list_processes(page: &mut [u8], block: &[u8], range: PageRange, first: u32)
+    requires { ⌜ Fits (now block) range × (first ≡ rootPlace (now block) (trackerPages (now block) (range .pages)) 1) × (192 ≤ length (now page)) ⌝ }
+    ensures { λ _. ⌜ now (page .exit) ≡ tab (length (now (page .entry))) (processListByte (now (block .entry)) (satpWord (now (block .entry)) range)) ⌝ }
 {
     stores::clear(page);
-    let count = counts::process_count(block);
+    let count = block_header::process_count(block);
     let mut place = first;
     let mut i: u32 = 0;
     while i < count {
-        let root = page_at(base, pages, place);
+        let root = page_at(range, place);
         put_process(page, block, i + 1, root);
-        place += leaves::table_count(block, i + 1);
+        place += order_leaves::table_count(block, i + 1);
         i += 1;
     }
 }
@@ -65,17 +63,16 @@ fn list_processes(page: &mut [u8], block: &[u8], base: u32, pages: u32, first: u
 pub(crate) fn load_process_list(
     ram: &mut [u8],
     block: &[u8],
-    base: u32,
-    pages: u32,
+    range: PageRange,
     from: PageAllocator,
 ) -> PageAllocator
-    requires { ⌜ Fits (now block) base pages × (from .left ≡ pages - (trackerPlace (now block) + trackerPages (now block) pages)) × (4096 * from .left ≤ length (now ram)) ⌝ }
+    requires { ⌜ Fits (now block) range × (from .left ≡ range .pages - (trackerPlace (now block) + trackerPages (now block) (range .pages))) × (4096 * from .left ≤ length (now ram)) ⌝ }
     ensures { λ r. ⌜ (r .left ≡ from .left - 1)
-        × ((flash : List ℕ) → now (ram .exit) ≡ put (now (ram .entry)) (from .left - 1) (content (now (block .entry)) flash base pages (holds processList))) ⌝ }
+        × (now (ram .exit) ≡ put (now (ram .entry)) (from .left - 1) (processListByte (now (block .entry)) (satpWord (now (block .entry)) range))) ⌝ }
 {
     let got = from.allocate();
     let start = got.page.0 as usize * 4096;
     let page = &mut ram[start..start + 4096];
-    list_processes(page, block, base, pages, pages - from.left + 2);
+    list_processes(page, block, range, range.pages - from.left + 2);
     got.rest
 }

@@ -1,26 +1,26 @@
 // Root and leaf tables: each is built as 1,024 entries, all absent at first, and stored as one page.
-ghost use mathlib.Core.List.{List};
 ghost use mathlib.Core.Path.{_≡_};
 ghost use mathlib.Core.Bool.{true};
-ghost use Prim.Native.Nat.{ℕ, _+_, _-_, _≤_, _<_};
+ghost use Prim.Native.Nat.{_-_, _≤_, _<_};
 ghost use lib.ListN.{length, getD};
 ghost use Rattle.notation.specs.Lists.{gather};
 ghost use Rattle.rules.specs.Block.{processCount};
-ghost use Rattle.rules.specs.Order.{hasLeaf, tableUses, trackerPages, leafTable};
-ghost use Rattle.rules.specs.Tables.{rootEntry};
+ghost use Rattle.rules.specs.Order.{hasLeaf, tableUses, allTables, trackerPages, leafTable};
+ghost use Rattle.rules.specs.Tables.{rootEntry, leafEntry};
 ghost use Rattle.rules.specs.Load.{physPage, tableByte};
-ghost use Rattle.placement.specs.Places.{rootPlace, tablesBefore};
-ghost use Rattle.leaves.specs.Marks.{leafMarks};
+ghost use Rattle.order_laws.specs.Places.{rootPlace};
+ghost use Rattle.order_leaves.specs.Marks.{leafMarks};
 ghost use Rattle.writing.specs.Pages.{put};
-ghost use Rattle.writing.specs.Uses.{writeUses};
-ghost use Rattle.writing.specs.Loaded.{content};
-ghost use Rattle.demands.specs.Boot.{Fits};
+ghost use Rattle.writing.specs.Loaded.{WroteAny};
+ghost use Rattle.accepted.specs.Fits.{Fits};
 ghost use Rattle.loader.specs.TablePages.{leafUses, LeavesAt};
 use crate::leaf_entries::leaf_entries;
-use ram_pages::PageAllocator;
-use ram_pages::physical;
+use page_allocator::PageAllocator;
+use page_allocator::physical;
+use types::PageRange;
 use types::PhysPage;
 use types::RamPage;
+use types::TABLE_ENTRIES;
 
 // Stores a table as RAM page k.
 fn store(ram: &mut [u8], k: RamPage, entries: &[u32])
@@ -39,29 +39,28 @@ fn load_root(
     ram: &mut [u8],
     k: RamPage,
     block: &[u8],
-    base: u32,
-    pages: u32,
+    range: PageRange,
     q: u32,
     marks: &[u8],
     first: PhysPage,
     kernel_leaf: PhysPage,
 )
-    requires { ⌜ LeavesAt (now block) base pages q (first .0) («kernel_leaf» .0) × (now marks ≡ leafMarks (now block) q 1024) ⌝ }
-    ensures { λ _. ⌜ now (ram .exit) ≡ put (now (ram .entry)) (k .0) (tableByte (rootEntry (now (block .entry)) (physPage (now (block .entry)) base pages) q)) ⌝ }
+    requires { ⌜ LeavesAt (now block) range q (first .0) («kernel_leaf» .0) × (now marks ≡ leafMarks (now block) q 1024) ⌝ }
+    ensures { λ _. ⌜ now (ram .exit) ≡ put (now (ram .entry)) (k .0) (tableByte (rootEntry (now (block .entry)) (physPage (now (block .entry)) range) q)) ⌝ }
 {
     let mut entries = [0u32; 1024];
-    tables::point_to_leaves(&mut entries, marks, first);
-    tables::point_to_kernel(&mut entries, kernel_leaf);
+    sv32_tables::point_to_leaves(&mut entries, marks, first);
+    sv32_tables::point_to_kernel(&mut entries, kernel_leaf);
     store(ram, k, &entries);
 }
 
 // The leaf table of process q for root slot m into RAM page k.
-fn load_leaf(ram: &mut [u8], k: RamPage, block: &[u8], base: u32, pages: u32, q: u32, m: u32)
-    requires { ⌜ Fits (now block) base pages × (1 ≤ q) × (q ≤ processCount (now block)) × (m < 1024) × (hasLeaf (now block) q m ≡ true) ⌝ }
-    ensures { λ _. ⌜ ((flash : List ℕ) → now (ram .exit) ≡ put (now (ram .entry)) (k .0) (content (now (block .entry)) flash base pages (leafTable q m))) ⌝ }
+fn load_leaf(ram: &mut [u8], k: RamPage, block: &[u8], range: PageRange, q: u32, m: u32)
+    requires { ⌜ Fits (now block) range × (1 ≤ q) × (q ≤ processCount (now block)) × (m < 1024) × (hasLeaf (now block) q m ≡ true) ⌝ }
+    ensures { λ _. ⌜ now (ram .exit) ≡ put (now (ram .entry)) (k .0) (tableByte (leafEntry (now (block .entry)) (trackerPages (now (block .entry)) (range .pages)) (physPage (now (block .entry)) range) q m)) ⌝ }
 {
     let mut entries = [0u32; 1024];
-    leaf_entries(&mut entries, block, base, pages, q, m);
+    leaf_entries(&mut entries, block, range, q, m);
     store(ram, k, &entries);
 }
 
@@ -69,22 +68,20 @@ fn load_leaf(ram: &mut [u8], k: RamPage, block: &[u8], base: u32, pages: u32, q:
 fn load_marked(
     ram: &mut [u8],
     block: &[u8],
-    base: u32,
-    pages: u32,
+    range: PageRange,
     q: u32,
     m: u32,
     mark: u8,
     from: PageAllocator,
 ) -> PageAllocator
-    requires { ⌜ Fits (now block) base pages × (1 ≤ q) × (q ≤ processCount (now block)) × (m < 1024) × (mark ≡ getD (leafMarks (now block) q 1024) m 0) ⌝ }
-    ensures { λ r. ⌜ (r .left ≡ from .left - length (leafUses (now (block .entry)) q m))
-        × ((flash : List ℕ) → now (ram .exit) ≡ writeUses (content (now (block .entry)) flash base pages) (now (ram .entry)) (from .left) (leafUses (now (block .entry)) q m)) ⌝ }
+    requires { ⌜ Fits (now block) range × (1 ≤ q) × (q ≤ processCount (now block)) × (m < 1024) × (mark ≡ getD (leafMarks (now block) q 1024) m 0) ⌝ }
+    ensures { λ r. ⌜ WroteAny (now (block .entry)) range (leafUses (now (block .entry)) q m) (now (ram .entry)) (from .left) (now (ram .exit)) (r .left) ⌝ }
 {
     if mark == 0 {
         return from;
     }
     let got = from.allocate();
-    load_leaf(ram, got.page, block, base, pages, q, m);
+    load_leaf(ram, got.page, block, range, q, m);
     got.rest
 }
 
@@ -92,21 +89,19 @@ fn load_marked(
 fn load_leaves(
     ram: &mut [u8],
     block: &[u8],
-    base: u32,
-    pages: u32,
+    range: PageRange,
     q: u32,
     marks: &[u8],
     from: PageAllocator,
 ) -> PageAllocator
-    requires { ⌜ Fits (now block) base pages × (1 ≤ q) × (q ≤ processCount (now block)) × (now marks ≡ leafMarks (now block) q 1024) ⌝ }
-    ensures { λ r. ⌜ (r .left ≡ from .left - length (gather 1024 (leafUses (now (block .entry)) q)))
-        × ((flash : List ℕ) → now (ram .exit) ≡ writeUses (content (now (block .entry)) flash base pages) (now (ram .entry)) (from .left) (gather 1024 (leafUses (now (block .entry)) q))) ⌝ }
+    requires { ⌜ Fits (now block) range × (1 ≤ q) × (q ≤ processCount (now block)) × (now marks ≡ leafMarks (now block) q 1024) ⌝ }
+    ensures { λ r. ⌜ WroteAny (now (block .entry)) range (gather 1024 (leafUses (now (block .entry)) q)) (now (ram .entry)) (from .left) (now (ram .exit)) (r .left) ⌝ }
 {
     let mut next = from;
     let mut m: u32 = 0;
-    while m < 1024 {
+    while m < TABLE_ENTRIES {
         let mark = slices::byte(marks, m as usize);
-        next = load_marked(ram, block, base, pages, q, m, mark, next);
+        next = load_marked(ram, block, range, q, m, mark, next);
         m += 1;
     }
     next
@@ -116,58 +111,44 @@ fn load_leaves(
 fn load_process_tables(
     ram: &mut [u8],
     block: &[u8],
-    base: u32,
-    pages: u32,
+    range: PageRange,
     q: u32,
     kernel_leaf: PhysPage,
     from: PageAllocator,
 ) -> PageAllocator
-    requires { ⌜ Fits (now block) base pages × (1 ≤ q) × (q ≤ processCount (now block)) × («kernel_leaf» .0 ≡ physPage (now block) base pages (leafTable 1 1023))
-        × (from .left ≡ pages - rootPlace (now block) (trackerPages (now block) pages) q) ⌝ }
-    ensures { λ r. ⌜ (r .left ≡ from .left - length (tableUses (now (block .entry)) q))
-        × ((flash : List ℕ) → now (ram .exit) ≡ writeUses (content (now (block .entry)) flash base pages) (now (ram .entry)) (from .left) (tableUses (now (block .entry)) q)) ⌝ }
+    requires { ⌜ Fits (now block) range × (1 ≤ q) × (q ≤ processCount (now block)) × («kernel_leaf» .0 ≡ physPage (now block) range (leafTable 1 1023))
+        × (from .left ≡ range .pages - rootPlace (now block) (trackerPages (now block) (range .pages)) q) ⌝ }
+    ensures { λ r. ⌜ WroteAny (now (block .entry)) range (tableUses (now (block .entry)) q) (now (ram .entry)) (from .left) (now (ram .exit)) (r .left) ⌝ }
 {
     let mut marks = [0u8; 1024];
-    leaves::leaf_marks(block, q, &mut marks);
+    order_leaves::leaf_marks(block, q, &mut marks);
     let root = from.allocate();
     // The page that the first leaf table gets.
     let leaf = root.rest.allocate();
-    let first = physical(base, leaf.page);
-    load_root(
-        ram,
-        root.page,
-        block,
-        base,
-        pages,
-        q,
-        &marks,
-        first,
-        kernel_leaf,
-    );
-    load_leaves(ram, block, base, pages, q, &marks, root.rest)
+    let first = physical(range, leaf.page);
+    load_root(ram, root.page, block, range, q, &marks, first, kernel_leaf);
+    load_leaves(ram, block, range, q, &marks, root.rest)
 }
 
 // The tables of all processes, the kernel's first.
 pub(crate) fn load_tables(
     ram: &mut [u8],
     block: &[u8],
-    base: u32,
-    pages: u32,
+    range: PageRange,
     from: PageAllocator,
 ) -> PageAllocator
-    requires { ⌜ Fits (now block) base pages × (from .left ≡ pages - rootPlace (now block) (trackerPages (now block) pages) 1) ⌝ }
-    ensures { λ r. ⌜ (r .left ≡ from .left - tablesBefore (now (block .entry)) (processCount (now (block .entry))))
-        × ((flash : List ℕ) → now (ram .exit) ≡ writeUses (content (now (block .entry)) flash base pages) (now (ram .entry)) (from .left) (gather (processCount (now (block .entry))) (λ i. tableUses (now (block .entry)) (i + 1)))) ⌝ }
+    requires { ⌜ Fits (now block) range × (from .left ≡ range .pages - rootPlace (now block) (trackerPages (now block) (range .pages)) 1) ⌝ }
+    ensures { λ r. ⌜ WroteAny (now (block .entry)) range (allTables (now (block .entry))) (now (ram .entry)) (from .left) (now (ram .exit)) (r .left) ⌝ }
 {
     // The kernel's root and its one leaf table get the next two pages.
     let root = from.allocate();
     let leaf = root.rest.allocate();
-    let kernel_leaf = physical(base, leaf.page);
-    let count = counts::process_count(block);
+    let kernel_leaf = physical(range, leaf.page);
+    let count = block_header::process_count(block);
     let mut next = from;
     let mut i: u32 = 0;
     while i < count {
-        next = load_process_tables(ram, block, base, pages, i + 1, kernel_leaf, next);
+        next = load_process_tables(ram, block, range, i + 1, kernel_leaf, next);
         i += 1;
     }
     next

@@ -1,32 +1,32 @@
 // The page tracker: a byte for each RAM page, its owner's number, and then one for each I/O page.
 ghost use mathlib.Core.Path.{_≡_};
-ghost use mathlib.Core.List.{List};
-ghost use Prim.Native.Nat.{ℕ, _+_, _-_, _*_};
+ghost use Prim.Native.Nat.{_+_, _*_};
 ghost use lib.ListN.{length, getD};
 ghost use Rattle.notation.specs.Lists.{tab};
-ghost use Rattle.rules.specs.Space.{trackerPage};
-ghost use Rattle.rules.specs.Order.{holds, trackerPages};
+ghost use Rattle.rules.specs.Order.{trackerUses, trackerPages, pagesNeeded};
 ghost use Rattle.rules.specs.Contents.{tracker};
 ghost use Rattle.writing.specs.Pages.{put};
-ghost use Rattle.writing.specs.Uses.{writeUses};
-ghost use Rattle.writing.specs.Loaded.{content};
-ghost use Rattle.loader.specs.Counted.{Counted};
-use ram_pages::PageAllocator;
+ghost use Rattle.writing.specs.Loaded.{WroteAny};
+ghost use Rattle.accepted.specs.Fits.{Fits};
+use page_allocator::PageAllocator;
+use types::PageRange;
 use types::RamPage;
+use types::TOP_PAGES;
 
 // The owners of all RAM pages: the pages taken are the kernel's, but for the section pages of user processes.
-fn track_owners(page: &mut [u8], block: &[u8], pages: u32, needed: u32)
-    requires { ⌜ Counted (now block) pages needed ⌝ }
-    ensures { λ _. ⌜ now (page .exit) ≡ tab (length (now (page .entry))) (λ k. getD (tracker (now (block .entry)) pages) k 0) ⌝ }
+fn track_owners(page: &mut [u8], block: &[u8], range: PageRange, needed: u32)
+    requires { ⌜ Fits (now block) range × (needed ≡ pagesNeeded (now block) (range .pages)) ⌝ }
+    ensures { λ _. ⌜ now (page .exit) ≡ tab (length (now (page .entry))) (λ k. getD (tracker (now (block .entry)) (range .pages)) k 0) ⌝ }
 {
+    let pages = range.pages;
     stores::clear(page);
     stores::fill(page, (pages - needed) as usize, pages as usize, 1);
-    let users = counts::process_count(block) - 1;
+    let users = block_header::process_count(block) - 1;
     // Below the four pages at the top: process 2's, then process 3's and so on.
-    let mut end = pages - 4;
+    let mut end = pages - TOP_PAGES;
     let mut i: u32 = 0;
     while i < users {
-        let start = end - places::process_pages(block, i + 2) as u32;
+        let start = end - order_places::process_pages(block, i + 2) as u32;
         stores::fill(page, start as usize, end as usize, (i + 2) as u8);
         end = start;
         i += 1;
@@ -34,46 +34,53 @@ fn track_owners(page: &mut [u8], block: &[u8], pages: u32, needed: u32)
 }
 
 // Page i of the tracker. All RAM pages are in page 0, since RAM has at most 4,096; after them all bytes are 0.
-fn track_page(page: &mut [u8], block: &[u8], pages: u32, needed: u32, i: u32)
-    requires { ⌜ Counted (now block) pages needed ⌝ }
-    ensures { λ _. ⌜ now (page .exit) ≡ tab (length (now (page .entry))) (λ o. getD (tracker (now (block .entry)) pages) (4096 * i + o) 0) ⌝ }
+fn track_page(page: &mut [u8], block: &[u8], range: PageRange, needed: u32, i: u32)
+    requires { ⌜ Fits (now block) range × (needed ≡ pagesNeeded (now block) (range .pages)) ⌝ }
+    ensures { λ _. ⌜ now (page .exit) ≡ tab (length (now (page .entry))) (λ o. getD (tracker (now (block .entry)) (range .pages)) (4096 * i + o) 0) ⌝ }
 {
     if i == 0 {
-        track_owners(page, block, pages, needed);
+        track_owners(page, block, range, needed);
         return;
     }
     stores::clear(page);
 }
 
 // Page i of the tracker into RAM page k.
-fn load_tracker_page(ram: &mut [u8], k: RamPage, block: &[u8], pages: u32, needed: u32, i: u32)
-    requires { ⌜ Counted (now block) pages needed ⌝ }
-    ensures { λ _. ⌜ now (ram .exit) ≡ put (now (ram .entry)) (k .0) (λ o. getD (tracker (now (block .entry)) pages) (4096 * i + o) 0) ⌝ }
+fn load_tracker_page(
+    ram: &mut [u8],
+    k: RamPage,
+    block: &[u8],
+    range: PageRange,
+    needed: u32,
+    i: u32,
+)
+    requires { ⌜ Fits (now block) range × (needed ≡ pagesNeeded (now block) (range .pages)) ⌝ }
+    ensures { λ _. ⌜ now (ram .exit) ≡ put (now (ram .entry)) (k .0) (λ o. getD (tracker (now (block .entry)) (range .pages)) (4096 * i + o) 0) ⌝ }
 {
     let from = numbers::least(k.0 as usize * 4096, ram.len());
     let to = numbers::least(from + 4096, ram.len());
     let page = &mut ram[from..to];
-    track_page(page, block, pages, needed, i);
+    track_page(page, block, range, needed, i);
 }
 
 // The whole tracker.
 pub(crate) fn load_tracker(
     ram: &mut [u8],
     block: &[u8],
-    pages: u32,
+    range: PageRange,
     needed: u32,
     from: PageAllocator,
 ) -> PageAllocator
-    requires { ⌜ Counted (now block) pages needed ⌝ }
-    ensures { λ r. ⌜ (r .left ≡ from .left - trackerPages (now (block .entry)) pages)
-        × ((flash : List ℕ) (base : ℕ) → now (ram .exit) ≡ writeUses (content (now (block .entry)) flash base pages) (now (ram .entry)) (from .left) (tab (trackerPages (now (block .entry)) pages) (λ i. holds (trackerPage i)))) ⌝ }
+    requires { ⌜ Fits (now block) range × (needed ≡ pagesNeeded (now block) (range .pages)) ⌝ }
+    ensures { λ r. ⌜ WroteAny (now (block .entry)) range (trackerUses (trackerPages (now (block .entry)) (range .pages)))
+        (now (ram .entry)) (from .left) (now (ram .exit)) (r .left) ⌝ }
 {
-    let count = tracker_size::tracker_pages(block, pages) as u32;
+    let count = order_tracker::tracker_pages(block, range.pages) as u32;
     let mut next = from;
     let mut i: u32 = 0;
     while i < count {
         let got = next.allocate();
-        load_tracker_page(ram, got.page, block, pages, needed, i);
+        load_tracker_page(ram, got.page, block, range, needed, i);
         next = got.rest;
         i += 1;
     }

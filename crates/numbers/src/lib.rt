@@ -1,4 +1,5 @@
-// Numbers and bits: each function answers for any input, and nothing wraps.
+// Numbers, bits and truth values: each function answers for any input, and nothing wraps.
+ghost use mathlib.Core.Bool.{_&&_};
 ghost use mathlib.Core.Path.{_≡_};
 ghost use Prim.Native.Nat.{_-_, _≤_, min};
 ghost use Rattle.notation.specs.Choice.{choose};
@@ -33,4 +34,11 @@ pub fn bit(n: u32, k: u32) -> bool
         return false;
     }
     n / k % 2 == 1
+}
+
+// Both are so.
+pub fn both(a: bool, b: bool) -> bool
+    ensures { λ r. ⌜ r ≡ (a && b) ⌝ }
+{
+    if a { b } else { false }
 }

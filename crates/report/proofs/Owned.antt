@@ -13,42 +13,23 @@ use borrow.Author.Tests.{eq-eqb, ne-eqb, eqb-true, eqb-false, le-leb}
 use Rattle.notation.specs.Choice.{choose}
 use Rattle.notation.specs.Lists.{tab, gather, count, sum}
 use Rattle.types.specs.declared.Answer.{Answer}
+use Rattle.types.specs.declared.Area.{Area}
+use Rattle.rules.specs.Lent.{Image, Ram, ramArea, pagesIn}
 use Rattle.rules.specs.Block.{processCount}
-use Rattle.rules.specs.Space.{trackerPage, processList, blockCopy}
-use Rattle.rules.specs.Order.{Use, top, holds, rootTable, sectionUses, hasLeaf, tableUses, order, uses, trackerPages, pagesNeeded, dataOwner, useOwner, pagesOf}
+use Rattle.rules.specs.Order.{Use, top, rootTable, sectionPages, sectionUses, hasLeaf, tableUses, order, uses, trackerPages, pagesNeeded, dataOwner, useOwner, pagesOf}
 use Rattle.rules.specs.Refusals.{verdict}
-use Rattle.rules.specs.Load.{physPage, answerTo, answer}
+use Rattle.rules.specs.Load.{physPage, bootAnswer, refusalAnswer, answerOn, answer}
 use Rattle.laws.specs.Choice.{by-choose, choose-yes, and-both}
-use Rattle.laws.specs.Lists.{Every, Absent, every-append, every-tab, every-gather}
-use Rattle.laws.specs.Counts.{one-yes, sum-same, sum-first, count-nil, count-cons, count-none}
-use Rattle.placement.specs.Places.{processPages, userPages, user-pages-none, user-pages-next, section-uses-length}
-use Rattle.demands.specs.NoCause.{no-cause}
-use Rattle.demands.specs.Boot.{boot}
-use Rattle.demands.specs.Counting.{owners-sum}
-use Rattle.roots.specs.declared.Root.{Root}
-use Rattle.roots.specs.declared.Root.the-variants.{Nowhere, At}
-use Rattle.roots.specs.Roots.{isProcess, rootFound}
-
--- COUNTS
-module _ {A : Type 0} (t : A → Bool) where
-  count-append : (l m : List A) → count t (l ++ m) ≡ count t l + count t m
-  count-append [] m = omega (arith, count-nil t)
-  count-append (x ∷ l) m = count-cons t x (l ++ m) ∙ omega (arith, count-cons t x l, count-append l m)
-
-  count-all : (l : List A) → Every (λ x. t x ≡ true) l → count t l ≡ length l
-  count-all [] e = count-nil t
-  count-all (x ∷ l) e = count-cons t x l ∙ omega (arith, one-yes (e .0), count-all l (e .1))
-
-  -- only list k of those gathered has elements that pass
-  count-gather : (n : ℕ) (f : ℕ → List A) (k : ℕ) → k < n → ((m : ℕ) → m ≢ k → Absent t (f m)) → count t (gather n f) ≡ count t (f k)
-  unfolding gather
-  count-gather zero f k h a = absurd (not-suc-le-zero h)
-  count-gather (suc n) f k h a = count-append (gather n f) (f n) ∙ elim (decLt k n) [
-    | yes l ↦ omega (arith, count-gather n f k l a, count-none t (f n) (a n (λ e. omega arith)))
-    | no l ↦
-        let e : k ≡ n = omega arith in
-        rw e (omega (arith, count-none t (gather n f) (every-gather _ n f (λ m h. a m (λ z. omega arith)))))
-  ]
+use Rattle.laws.specs.Lists.{Every, Absent, every-tab, every-gather}
+use Rattle.laws.specs.Counts.{sum-same, sum-first, count-append, count-all, count-gather, count-none}
+use Rattle.order_laws.specs.Uses.{afterUsers, order-users, every-after-users}
+use Rattle.order_laws.specs.Places.{processPages, userPages, user-pages-none, user-pages-next, section-uses-length}
+use Rattle.accepted.specs.NoCause.{no-cause}
+use Rattle.accepted.specs.Fits.{fits}
+use Rattle.accepted.specs.Counting.{owners-sum}
+use Rattle.order_roots.specs.declared.Root.{Root}
+use Rattle.order_roots.specs.declared.Root.the-variants.{Nowhere, At}
+use Rattle.order_roots.specs.Roots.{isProcess, rootFound}
 
 -- A USER: its sections' pages
 module _ (b : List ℕ) (q : ℕ) (n : q ≢ 1) where
@@ -56,11 +37,11 @@ module _ (b : List ℕ) (q : ℕ) (n : q ≢ 1) where
   owned u = eqb (useOwner u) q
 
   sections-owned : Every (λ u. owned u ≡ true) (sectionUses b q)
-  unfolding sectionUses useOwner dataOwner
+  unfolding sectionUses sectionPages useOwner dataOwner
   sections-owned = every-gather _ _ _ (λ j _. every-tab _ _ _ (λ i _. eq-eqb q q refl))
 
   sections-other : (m : ℕ) → m ≢ q → Absent owned (sectionUses b m)
-  unfolding sectionUses useOwner dataOwner
+  unfolding sectionUses sectionPages useOwner dataOwner
   sections-other m h = every-gather _ _ _ (λ j _. every-tab _ _ _ (λ i _. ne-eqb m q h))
 
   not-kernel : eqb 1 q ≡ false
@@ -70,33 +51,27 @@ module _ (b : List ℕ) (q : ℕ) (n : q ≢ 1) where
   unfolding tableUses useOwner
   tables-other m = (not-kernel, every-gather _ 1024 _ (λ k _. by-choose (Absent owned) (hasLeaf b m k) _ _ (λ _. (not-kernel, tt)) (λ _. tt)))
 
-  -- what follows the users' sections
-  abbrev after : ℕ → List Use
-  after T = sectionUses b 1 ++ (tab T (λ i. holds (trackerPage i)) ++ (holds processList ∷ holds blockCopy ∷ gather (processCount b) (λ i. tableUses b (i + 1))))
-
-  after-other : (T : ℕ) → Absent owned (after T)
+  after-other : (T : ℕ) → Absent owned (afterUsers b T)
   unfolding useOwner dataOwner
-  after-other T =
-      every-append _ (sectionUses b 1) _ (sections-other 1 (λ e. n (sym e)))
-      (every-append _ (tab T _) _ (every-tab _ T _ (λ i _. not-kernel)) (not-kernel, (not-kernel, every-gather _ (processCount b) _ (λ i _. tables-other (i + 1)))))
+  after-other T = every-after-users (λ u. owned u ≡ false) b T (sections-other 1 (λ e. n (sym e))) (λ i. not-kernel) not-kernel not-kernel tables-other
 
   order-owned : (T : ℕ) → 2 ≤ q → q ≤ processCount b → count owned (order b T) ≡ processPages b q
-  unfolding order useOwner dataOwner
+  unfolding useOwner dataOwner
   order-owned T lo hi =
       let users : ℕ → List Use = λ i. sectionUses b (i + 2) in
       let s : q - 2 + 2 ≡ q = omega arith in
       let g : count owned (gather (processCount b - 1) users) ≡ count owned (sectionUses b q)
       = count-gather owned (processCount b - 1) users (q - 2) (omega arith) (λ m h. sections-other (m + 2) (λ e. h (omega arith))) ∙ rw s in
-      count-append owned (tab 4 top) _
+      rw (order-users b T) (count-append owned (tab 4 top) _
       ∙ omega (
         arith,
         count-none owned (tab 4 top) (every-tab _ 4 top (λ i _. not-kernel)),
-        count-append owned (gather (processCount b - 1) users) (after T),
+        count-append owned (gather (processCount b - 1) users) (afterUsers b T),
         g,
         count-all owned (sectionUses b q) sections-owned,
         section-uses-length b q,
-        count-none owned (after T) (after-other T),
-      )
+        count-none owned (afterUsers b T) (after-other T),
+      ))
 
 pub user-owned : (b : List ℕ) (N q : ℕ) → 2 ≤ q → q ≤ processCount b → pagesOf b N q ≡ processPages b q
 unfolding pagesOf uses
@@ -136,27 +111,27 @@ abbrev page-number : Root → ℕ
 page-number Nowhere = 0
 page-number (At P) = P .0
 
-pub root-is : (b : List ℕ) (flash start len q : ℕ) (root known : Root) → verdict b flash start len .number ≡ 0 → 1 ≤ q → q ≤ processCount b
-    → root ≡ rootFound b flash start len q → root ≡ known → page-number known ≡ physPage b (start / 4096) (len / 4096) (rootTable q)
+pub root-is : (x : Image) (ram : Area) (q : ℕ) (root known : Root) → verdict x ram .number ≡ 0 → 1 ≤ q → q ≤ processCount (x .block)
+    → root ≡ rootFound x ram q → root ≡ known → page-number known ≡ physPage (x .block) (pagesIn ram) (rootTable q)
 unfolding rootFound isProcess
-root-is b flash start len q root known z lo hi e k =
-    ap page-number (sym k ∙ e ∙ choose-yes _ _ (and-both (eq-eqb _ 0 z) (and-both (le-leb 1 q lo) (le-leb q (processCount b) hi))))
+root-is x ram q root known z lo hi e k =
+    ap page-number (sym k ∙ e ∙ choose-yes _ _ (and-both (eq-eqb _ 0 z) (and-both (le-leb 1 q lo) (le-leb q (processCount (x .block)) hi))))
 
 -- A BOOT
-booted : (b : List ℕ) (flash start len : ℕ) → answer b flash start len .number ≡ 0
-    → (verdict b flash start len .number ≡ 0) × (answer b flash start len .taken ≡ pagesNeeded b (len / 4096))
-unfolding answer answerTo
-booted b flash start len = by-choose
-    (λ (a : Answer). a .number ≡ 0 → (verdict b flash start len .number ≡ 0) × (a .taken ≡ pagesNeeded b (len / 4096)))
-    (eqb (verdict b flash start len .number) 0) _ _
+booted : (x : Image) (r : Ram) → answer x r .number ≡ 0
+    → (verdict x (ramArea r) .number ≡ 0) × (answer x r .taken ≡ pagesNeeded (x .block) (pagesIn (ramArea r) .pages))
+unfolding answer answerOn bootAnswer refusalAnswer
+booted x r = by-choose
+    (λ (a : Answer). a .number ≡ 0 → (verdict x (ramArea r) .number ≡ 0) × (a .taken ≡ pagesNeeded (x .block) (pagesIn (ramArea r) .pages)))
+    (eqb (verdict x (ramArea r) .number) 0) _ _
     (λ c _. (eqb-true _ 0 c, refl))
     (λ c z. absurd (eqb-false _ 0 c z))
 
 -- the verdict, and the kernel's pages as what the users leave of those taken
-pub booted-kernel : (b : List ℕ) (flash start len : ℕ) (a : Answer) {kernel : ℕ} → a ≡ answer b flash start len → a .number ≡ 0
-    → kernel ≡ a .taken - userPages b (processCount b - 1)
-    → (verdict b flash start len .number ≡ 0) × (kernel ≡ pagesOf b (len / 4096) 1)
-booted-kernel b flash start len a e z h =
-    let known = booted b flash start len (rw e at z) in
-    let some : 1 ≤ processCount b = boot b flash start len (no-cause b flash start len (known .0)) .processes in
-    (known .0, omega (arith, rw e at h, known .1, owners-add b (len / 4096) some))
+pub booted-kernel : (x : Image) (r : Ram) (a : Answer) {kernel : ℕ} → a ≡ answer x r → a .number ≡ 0
+    → kernel ≡ a .taken - userPages (x .block) (processCount (x .block) - 1)
+    → (verdict x (ramArea r) .number ≡ 0) × (kernel ≡ pagesOf (x .block) (pagesIn (ramArea r) .pages) 1)
+booted-kernel x r a e z h =
+    let known = booted x r (rw e at z) in
+    let some : 1 ≤ processCount (x .block) = fits x (ramArea r) (no-cause x (ramArea r) (known .0)) .some-process in
+    (known .0, omega (arith, rw e at h, known .1, owners-add (x .block) (pagesIn (ramArea r) .pages) some))

@@ -2,17 +2,17 @@
 ghost use mathlib.Core.Path.{_≡_};
 ghost use Prim.Native.Nat.{_-_, _/_, _≤_};
 ghost use lib.Dec.{eqb};
-ghost use lib.ListN.{length};
 ghost use Rattle.notation.specs.Choice.{choose};
+ghost use Rattle.rules.specs.Lent.{imageOf, ramOf, areaOf, pagesIn};
 ghost use Rattle.rules.specs.Block.{processCount};
 ghost use Rattle.rules.specs.Order.{rootTable, pagesOf};
 ghost use Rattle.rules.specs.Refusals.{verdict};
 ghost use Rattle.rules.specs.Load.{physPage, ramAfter};
-ghost use Rattle.placement.specs.Places.{processPages, userPages};
+ghost use Rattle.order_laws.specs.Places.{processPages, userPages};
 ghost use Rattle.text.specs.Text.{Appended};
 ghost use Rattle.report.specs.Lines.{twoNumbers, bootLine, processLine, refusedLine};
 ghost use Rattle.report.specs.Listing.{processLines, listing};
-use roots::Root;
+use order_roots::Root;
 
 // A text with two numbers in it.
 fn two_numbers(
@@ -73,11 +73,11 @@ fn refused_line(to: &mut [u8], at: usize, number: u32, place: u32) -> usize
 fn kernel_pages(block: &[u8], taken: u32) -> u64
     ensures { λ r. ⌜ r ≡ taken - userPages (now (block .entry)) (processCount (now (block .entry)) - 1) ⌝ }
 {
-    let count = counts::process_count(block);
+    let count = block_header::process_count(block);
     let mut left = taken as usize;
     let mut i: u32 = 1;
     while i < count {
-        left = numbers::minus(left, places::process_pages(block, i + 1) as usize);
+        left = numbers::minus(left, order_places::process_pages(block, i + 1) as usize);
         i += 1;
     }
     left as u64
@@ -90,15 +90,15 @@ fn pages_of(block: &[u8], kernel: u64, q: u32) -> u64
     if q == 1 {
         return kernel;
     }
-    places::process_pages(block, q)
+    order_places::process_pages(block, q)
 }
 
 // The page number of process q's root table, where the block boots.
-fn root_page(block: &[u8], flash: usize, start: u32, ram: usize, q: u32) -> u32
-    requires { ⌜ (verdict (now block) flash start ram .number ≡ 0) × (1 ≤ q) × (q ≤ processCount (now block)) ⌝ }
-    ensures { λ r. ⌜ r ≡ physPage (now (block .entry)) (start / 4096) (ram / 4096) (rootTable q) ⌝ }
+fn root_page(block: &[u8], flash: &[u8], start: u32, ram: usize, q: u32) -> u32
+    requires { ⌜ (verdict (imageOf (now block) (now flash)) (areaOf start ram) .number ≡ 0) × (1 ≤ q) × (q ≤ processCount (now block)) ⌝ }
+    ensures { λ r. ⌜ r ≡ physPage (now (block .entry)) (pagesIn (areaOf start ram)) (rootTable q) ⌝ }
 {
-    match roots::find_root(block, flash, start, ram, q) {
+    match order_roots::find_root(block, flash, start, ram, q) {
         Root::Nowhere => 0,
         Root::At(page) => page.0,
     }
@@ -109,15 +109,15 @@ fn process_lines(
     to: &mut [u8],
     at: usize,
     block: &[u8],
-    flash: usize,
+    flash: &[u8],
     start: u32,
     ram: usize,
     kernel: u64,
 ) -> usize
-    requires { ⌜ (verdict (now block) flash start ram .number ≡ 0) × (kernel ≡ pagesOf (now block) (ram / 4096) 1) ⌝ }
-    ensures { λ r. ⌜ Appended (now (to .entry)) at (processLines (now (block .entry)) (start / 4096) (ram / 4096) (processCount (now (block .entry)))) (now (to .exit)) r ⌝ }
+    requires { ⌜ (verdict (imageOf (now block) (now flash)) (areaOf start ram) .number ≡ 0) × (kernel ≡ pagesOf (now block) (ram / 4096) 1) ⌝ }
+    ensures { λ r. ⌜ Appended (now (to .entry)) at (processLines (now (block .entry)) (pagesIn (areaOf start ram)) (processCount (now (block .entry)))) (now (to .exit)) r ⌝ }
 {
-    let count = counts::process_count(block);
+    let count = block_header::process_count(block);
     let mut end = numbers::least(at, to.len());
     let mut i: u32 = 0;
     while i < count {
@@ -132,8 +132,8 @@ fn process_lines(
 
 // Loads, and puts the listing at the start of `to`, as much of it as there is room for. Answers the listing's end there.
 pub fn load_listing(block: &[u8], flash: &[u8], ram: &mut [u8], start: u32, to: &mut [u8]) -> usize
-    ensures { λ r. ⌜ (now (ram .exit) ≡ ramAfter (now (block .entry)) (now (flash .entry)) start (now (ram .entry)))
-        × Appended (now (to .entry)) 0 (listing (now (block .entry)) (length (now (flash .entry))) start (length (now (ram .entry)))) (now (to .exit)) r ⌝ }
+    ensures { λ r. ⌜ (now (ram .exit) ≡ ramAfter (imageOf (now (block .entry)) (now (flash .entry))) (ramOf start (now (ram .entry))))
+        × Appended (now (to .entry)) 0 (listing (imageOf (now (block .entry)) (now (flash .entry))) (ramOf start (now (ram .entry)))) (now (to .exit)) r ⌝ }
 {
     let len = ram.len();
     let answer = loader::load(block, flash, ram, start);
@@ -142,5 +142,5 @@ pub fn load_listing(block: &[u8], flash: &[u8], ram: &mut [u8], start: u32, to: 
     }
     let lines = boot_line(to, 0, (len / 4096) as u64, answer.free);
     let kernel = kernel_pages(block, answer.taken);
-    process_lines(to, lines, block, flash.len(), start, len, kernel)
+    process_lines(to, lines, block, flash, start, len, kernel)
 }

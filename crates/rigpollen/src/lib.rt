@@ -1,7 +1,8 @@
 // The entries for C. A slice passes as a pointer and then a length.
 ghost use mathlib.Core.Path.{_≡_};
-ghost use lib.ListN.{length, set};
+ghost use lib.ListN.{set};
 ghost use lib.Seq.{sets};
+ghost use Rattle.rules.specs.Lent.{imageOf, ramOf};
 ghost use Rattle.rules.specs.Load.{answer as answerOf, ramAfter};
 ghost use Rattle.rules.specs.Reader.{walk};
 ghost use Rattle.rigpollen.specs.Words.{answerWords, rightsWord, entryNumber, entryWords};
@@ -23,8 +24,8 @@ fn put(words: &mut [u32], at: usize, word: u32)
 // refusal, which leaves RAM as it came.
 #[no_mangle]
 pub extern "C" fn rigpollen_load(block: &[u8], flash: &[u8], ram: &mut [u8], ram_start: u32) -> u32
-    ensures { λ r. ⌜ (r ≡ answerOf (now (block .entry)) (length (now (flash .entry))) «ram_start» (length (now (ram .entry))) .number)
-        × (now (ram .exit) ≡ ramAfter (now (block .entry)) (now (flash .entry)) «ram_start» (now (ram .entry))) ⌝ }
+    ensures { λ r. ⌜ (r ≡ answerOf (imageOf (now (block .entry)) (now (flash .entry))) (ramOf «ram_start» (now (ram .entry))) .number)
+        × (now (ram .exit) ≡ ramAfter (imageOf (now (block .entry)) (now (flash .entry))) (ramOf «ram_start» (now (ram .entry)))) ⌝ }
 {
     let answer = loader::load(block, flash, ram, ram_start);
     answer.number
@@ -51,9 +52,9 @@ pub extern "C" fn rigpollen_answer(
     ram_start: u32,
     answer: &mut [u32],
 ) -> u32
-    ensures { λ r. ⌜ (r ≡ answerOf (now (block .entry)) (length (now (flash .entry))) «ram_start» (length (now (ram .entry))) .number)
-        × (now (ram .exit) ≡ ramAfter (now (block .entry)) (now (flash .entry)) «ram_start» (now (ram .entry)))
-        × (now (answer .exit) ≡ sets (now (answer .entry)) 0 (answerWords (answerOf (now (block .entry)) (length (now (flash .entry))) «ram_start» (length (now (ram .entry)))))) ⌝ }
+    ensures { λ r. ⌜ (r ≡ answerOf (imageOf (now (block .entry)) (now (flash .entry))) (ramOf «ram_start» (now (ram .entry))) .number)
+        × (now (ram .exit) ≡ ramAfter (imageOf (now (block .entry)) (now (flash .entry))) (ramOf «ram_start» (now (ram .entry))))
+        × (now (answer .exit) ≡ sets (now (answer .entry)) 0 (answerWords (answerOf (imageOf (now (block .entry)) (now (flash .entry))) (ramOf «ram_start» (now (ram .entry)))))) ⌝ }
 {
     let full = loader::load(block, flash, ram, ram_start);
     tell_answer(full, answer);
@@ -97,9 +98,9 @@ pub extern "C" fn rigpollen_walk(
     address: u32,
     page: &mut [u32],
 ) -> u32
-    ensures { λ r. ⌜ (r ≡ entryNumber (walk (now (ram .entry)) «ram_start» root address))
-        × (now (page .exit) ≡ sets (now (page .entry)) 0 (entryWords (walk (now (ram .entry)) «ram_start» root address))) ⌝ }
+    ensures { λ r. ⌜ (r ≡ entryNumber (walk (ramOf «ram_start» (now (ram .entry))) root address))
+        × (now (page .exit) ≡ sets (now (page .entry)) 0 (entryWords (walk (ramOf «ram_start» (now (ram .entry))) root address))) ⌝ }
 {
-    let entry = reader::walk(ram, ram_start, PhysPage(root), address);
+    let entry = sv32_reader::walk(ram, ram_start, PhysPage(root), address);
     tell_entry(entry, page)
 }

@@ -2,8 +2,12 @@
 use mathlib.Core.Bool.{Bool}
 use mathlib.Core.List.{List}
 use Prim.Native.Nat.{ℕ, _+_, _-_, _*_, _/_}
+use lib.Dec.{eqb}
+use Rattle.notation.specs.Choice.{choose}
 use Rattle.notation.specs.Lists.{sum}
 use Rattle.notation.specs.Words.{word, bit}
+use Rattle.types.specs.declared.Area.{Area}
+use Rattle.rules.specs.Lent.{areaOf}
 
 -- THE HEADER: eight words
 unfoldable pub format : List ℕ → ℕ
@@ -59,6 +63,13 @@ sectionsOf b q = word b (processAt q + 8)
 unfoldable pub kind : List ℕ → ℕ → ℕ
 kind b q = word b (processAt q + 12)
 
+-- its stack reservation: four pages that end at 0x80000000, none for the kernel; and the first of them
+unfoldable pub stackPages : List ℕ → ℕ → ℕ
+stackPages b q = choose (eqb q 1) 0 4
+
+unfoldable pub stackFirst : List ℕ → ℕ → ℕ
+stackFirst b q = 0x80000 - stackPages b q
+
 -- the record of section j, counted from 0, of process q
 unfoldable pub sectionRecord : List ℕ → ℕ → ℕ → ℕ
 sectionRecord b q j = firstSection b q + j
@@ -113,8 +124,8 @@ regionStart b i = word b (regionAt b i)
 unfoldable pub regionPages : List ℕ → ℕ → ℕ
 regionPages b i = word b (regionAt b i + 4)
 
-unfoldable pub regionEnd : List ℕ → ℕ → ℕ
-regionEnd b i = regionStart b i + 4096 * regionPages b i
+unfoldable pub regionArea : List ℕ → ℕ → Area
+regionArea b i = areaOf (regionStart b i) (4096 * regionPages b i)
 
 -- the I/O pages of the first n regions, and of all
 unfoldable pub ioPagesOf : List ℕ → ℕ → ℕ
@@ -125,5 +136,5 @@ ioPages b = ioPagesOf b (regionCount b)
 
 -- all definitions of this file, to be unfolded as one
 unfoldable pub block-rules : Unit {0}
-unfolding format lengthField processCount processOffset sectionCount sectionOffset regionCount regionOffset sectionsAt regionsAt tightLength processAt entryPoint firstSection sectionsOf kind sectionRecord sectionAt address size flashOffset flags noCopy writable executable sectionEnd firstPage lastPage pageCount regionAt regionStart regionPages regionEnd ioPagesOf ioPages
+unfolding format lengthField processCount processOffset sectionCount sectionOffset regionCount regionOffset sectionsAt regionsAt tightLength processAt entryPoint firstSection sectionsOf kind stackPages stackFirst sectionRecord sectionAt address size flashOffset flags noCopy writable executable sectionEnd firstPage lastPage pageCount regionAt regionStart regionPages regionArea ioPagesOf ioPages
 block-rules = tt

@@ -37,9 +37,9 @@ reservedEntry = 22
 unfoldable pub pointerEntry : ℕ → ℕ
 pointerEntry P = 1024 * P + 1
 
--- valid and read, with write, execute and user as given
-unfoldable pub pageEntry : ℕ → Bool → Bool → Bool → ℕ
-pageEntry P write execute user = 1024 * P + (1 + 2 + choose write 4 0 + choose execute 8 0 + choose user 16 0)
+-- valid, and a flag for each right
+unfoldable pub pageEntry : ℕ → Rights → ℕ
+pageEntry P t = 1024 * P + (1 + choose (t .read) 2 0 + choose (t .write) 4 0 + choose (t .execute) 8 0 + choose (t .user) 16 0)
 
 -- READING AN ENTRY
 unfoldable pub rightsIn : ℕ → Rights

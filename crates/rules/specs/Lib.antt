@@ -1,3 +1,4 @@
+pub mod Lent
 pub mod Block
 pub mod Space
 pub mod Order
@@ -9,5 +10,5 @@ pub mod Load
 pub mod Reader
 pub mod Sees
 pub mod Compare
-pub mod Marked
+pub mod Examples
 pub mod SmallBoard

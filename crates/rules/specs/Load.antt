@@ -8,59 +8,71 @@ use lib.Dec.{eqb}
 use Rattle.notation.specs.Choice.{choose}
 use Rattle.notation.specs.Lists.{tab}
 use Rattle.notation.specs.Words.{byteOf}
+use Rattle.types.specs.declared.Area.{Area}
+use Rattle.types.specs.declared.PageRange.{PageRange}
 use Rattle.types.specs.declared.Verdict.{Verdict}
 use Rattle.types.specs.declared.Answer.{Answer}
+use Rattle.rules.specs.Lent.{Image, Ram, ramOf, ramArea, pagesIn}
 use Rattle.rules.specs.Order.{Use, top, holds, rootTable, leafTable, trackerPages, pagesNeeded, freePages, useOf, ramPage}
 use Rattle.rules.specs.Refusals.{verdict}
 use Rattle.rules.specs.Tables.{rootEntry, leafEntry}
 use Rattle.rules.specs.Contents.{tracker, dataByte}
 
--- RAM of N pages starts at physical page `base`
--- the physical page number of a use
-unfoldable pub physPage : List ℕ → ℕ → ℕ → Use → ℕ
-physPage b base N u = base + ramPage b N u
+-- the physical page number of a use, where RAM has these pages
+unfoldable pub physPage : List ℕ → PageRange → Use → ℕ
+physPage b ram u = ram .base + ramPage b (ram .pages) u
 
 -- the satp word of process q: mode Sv32, its number as address space (ASID), its root's physical page
-unfoldable pub satpWord : List ℕ → ℕ → ℕ → ℕ → ℕ
-satpWord b base N q = 0x8000_0000 + 0x40_0000 * q + physPage b base N (rootTable q)
+unfoldable pub satpWord : List ℕ → PageRange → ℕ → ℕ
+satpWord b ram q = 0x8000_0000 + 0x40_0000 * q + physPage b ram (rootTable q)
 
 -- byte k of a table: 1,024 entries of four bytes
 unfoldable pub tableByte : (ℕ → ℕ) → ℕ → ℕ
 tableByte entry k = byteOf (entry (k / 4)) (k % 4)
 
 -- byte k of a RAM page with this use, `old` before the load: a free page and the four at the top keep their bytes
-unfoldable pub pageByte : List ℕ → List ℕ → ℕ → ℕ → Option Use → ℕ → ℕ → ℕ
-pageByte b flash base N none old k = old
-pageByte b flash base N (some (top i)) old k = old
-pageByte b flash base N (some (holds d)) old k = dataByte b flash (tracker b N) (satpWord b base N) d k
-pageByte b flash base N (some (rootTable q)) old k = tableByte (rootEntry b (physPage b base N) q) k
-pageByte b flash base N (some (leafTable q m)) old k = tableByte (leafEntry b (trackerPages b N) (physPage b base N) q m) k
+unfoldable pub pageByte : Image → PageRange → Option Use → ℕ → ℕ → ℕ
+pageByte x ram none old k = old
+pageByte x ram (some (top i)) old k = old
+pageByte x ram (some (holds d)) old k = dataByte x (tracker (x .block) (ram .pages)) (satpWord (x .block) ram) d k
+pageByte x ram (some (rootTable q)) old k = tableByte (rootEntry (x .block) (physPage (x .block) ram) q) k
+pageByte x ram (some (leafTable q m)) old k =
+    tableByte (leafEntry (x .block) (trackerPages (x .block) (ram .pages)) (physPage (x .block) ram) q m) k
 
--- RAM with all pages loaded
-unfoldable pub loaded : List ℕ → List ℕ → ℕ → List ℕ → List ℕ
-loaded b flash start ram =
-    let N = length ram / 4096 in
-    tab (length ram) (λ x. pageByte b flash (start / 4096) N (useOf b N (x / 4096)) (getD ram x 0) (x % 4096))
+-- RAM's bytes with all pages loaded
+unfoldable pub loaded : Image → Ram → List ℕ
+loaded x r =
+    let ram = pagesIn (ramArea r) in
+    tab (length (r .bytes)) (λ k. pageByte x ram (useOf (x .block) (ram .pages) (k / 4096)) (getD (r .bytes) k 0) (k % 4096))
 
 -- block and flash boot on this RAM
-unfoldable pub boots : List ℕ → List ℕ → ℕ → List ℕ → Bool
-boots b flash start ram = eqb (verdict b (length flash) start (length ram) .number) 0
+unfoldable pub boots : Image → Ram → Bool
+boots x r = eqb (verdict x (ramArea r) .number) 0
 
--- RAM after the call; in a refusal it is as it came
-unfoldable pub ramAfter : List ℕ → List ℕ → ℕ → List ℕ → List ℕ
-ramAfter b flash start ram = choose (boots b flash start ram) (loaded b flash start ram) ram
+-- RAM after the call: its bytes, which in a refusal are as they came; and it
+unfoldable pub ramAfter : Image → Ram → List ℕ
+ramAfter x r = choose (boots x r) (loaded x r) (r .bytes)
 
--- the full answer to a verdict, on RAM of N pages
-unfoldable pub answerTo : Verdict → List ℕ → ℕ → Answer
-answerTo v b N = choose (eqb (v .number) 0)
-    (record { number = 0; place = 0; taken = pagesNeeded b N; free = freePages b N; tracker = trackerPages b N })
-    (record { number = v .number; place = v .place; taken = 0; free = 0; tracker = 0 })
+abbrev pub after : Image → Ram → Ram
+after x r = ramOf (r .start) (ramAfter x r)
 
--- the full answer for an image of `flash` bytes and RAM of `len` bytes from `start` on: it depends on nothing else of them
-unfoldable pub answer : List ℕ → ℕ → ℕ → ℕ → Answer
-answer b flash start len = answerTo (verdict b flash start len) b (len / 4096)
+-- THE FULL ANSWER to a refusal: number, place, and the three counts 0
+unfoldable pub refusalAnswer : Verdict → Answer
+refusalAnswer v = record { number = v .number; place = v .place; taken = 0; free = 0; tracker = 0 }
+
+-- to a boot on RAM of N pages
+unfoldable pub bootAnswer : List ℕ → ℕ → Answer
+bootAnswer b N = record { number = 0; place = 0; taken = pagesNeeded b N; free = freePages b N; tracker = trackerPages b N }
+
+-- for RAM that lies here; it depends on nothing else of RAM
+unfoldable pub answerOn : Image → Area → Answer
+answerOn x ram =
+    let v = verdict x ram in choose (eqb (v .number) 0) (bootAnswer (x .block) (pagesIn ram .pages)) (refusalAnswer v)
+
+unfoldable pub answer : Image → Ram → Answer
+answer x r = answerOn x (ramArea r)
 
 -- all definitions of this file, to be unfolded as one
 unfoldable pub load-rules : Unit {0}
-unfolding physPage satpWord tableByte pageByte loaded boots ramAfter answerTo answer
+unfolding physPage satpWord tableByte pageByte loaded boots ramAfter refusalAnswer bootAnswer answerOn answer
 load-rules = tt

@@ -24,9 +24,24 @@ pub data Use : Type 0 where
   deriving Discrete as Use-discrete
 
 -- THE USES, IN ORDER
--- the pages of process q's sections: by record, in a section by rising virtual page
+-- the pages that section record n takes in RAM
+unfoldable pub pagesTaken : List ℕ → ℕ → ℕ
+pagesTaken b n = pageCount b n
+
+-- the pages of section j of process q, by rising virtual page; of its sections, by record; of all sections: process 2's, 3's and so on,
+-- then the kernel's
+unfoldable pub sectionPages : List ℕ → ℕ → ℕ → List Use
+sectionPages b q j = tab (pagesTaken b (sectionRecord b q j)) (λ i. holds (sectionPage q j i))
+
 unfoldable pub sectionUses : List ℕ → ℕ → List Use
-sectionUses b q = gather (sectionsOf b q) (λ j. tab (pageCount b (sectionRecord b q j)) (λ i. holds (sectionPage q j i)))
+sectionUses b q = gather (sectionsOf b q) (sectionPages b q)
+
+unfoldable pub allSections : List ℕ → List Use
+allSections b = gather (processCount b - 1) (λ i. sectionUses b (i + 2)) ++ sectionUses b 1
+
+-- the page tracker's T pages: the lower part first
+unfoldable pub trackerUses : ℕ → List Use
+trackerUses T = tab T (λ i. holds (trackerPage i))
 
 -- root slots `first` to `last`
 pub record Slots : Type 0 where
@@ -47,21 +62,19 @@ hasLeaf b q =
     let sections = tab (sectionsOf b q) (λ j. slotsOf b (sectionRecord b q j)) in
     λ m. choose (eqb q 1) (eqb m 1023) (choose (eqb m 511) true (someOf (inSlots m) sections))
 
--- the tables of process q: its root, then its leaves, rising
+-- the tables of process q: its root, then its leaves, rising; and of all processes, the kernel's first
 unfoldable pub tableUses : List ℕ → ℕ → List Use
 tableUses b q = let leaf = hasLeaf b q in rootTable q ∷ gather 1024 (λ m. choose (leaf m) (leafTable q m ∷ []) [])
 
--- the order: the four at the top; the sections of process 2, 3 and so on, then the kernel's; the tracker's T pages; the process
--- list; the copy of the block; the tables of the kernel, then of each user process
+unfoldable pub allTables : List ℕ → List Use
+allTables b = gather (processCount b) (λ i. tableUses b (i + 1))
+
+-- THE ORDER: the four at the top; all sections; the tracker's T pages; the process list; the copy of the block; all tables
+unfoldable pub belowTop : List ℕ → ℕ → List Use
+belowTop b T = allSections b ++ (trackerUses T ++ (holds processList ∷ holds blockCopy ∷ allTables b))
+
 unfoldable pub order : List ℕ → ℕ → List Use
-order b T =
-    tab 4 top
-    ++ (gather (processCount b - 1) (λ i. sectionUses b (i + 2))
-    ++ (sectionUses b 1
-    ++ (tab T (λ i. holds (trackerPage i))
-    ++ (holds processList
-    ∷ holds blockCopy
-    ∷ gather (processCount b) (λ i. tableUses b (i + 1))))))
+order b T = tab 4 top ++ belowTop b T
 
 -- COUNTED FROM IT, for RAM of N pages
 -- pages that hold n bytes
@@ -117,5 +130,5 @@ pagesOf b N q = count (λ u. eqb (useOwner u) q) (uses b N)
 
 -- all definitions of this file, to be unfolded as one
 unfoldable pub order-rules : Unit {0}
-unfolding sectionUses slotsOf inSlots hasLeaf tableUses order pagesFor trackerPages uses pagesNeeded freePages useOf sameUse ramPage dataOwner useOwner owner pagesOf
+unfolding pagesTaken sectionPages sectionUses allSections trackerUses slotsOf inSlots hasLeaf tableUses allTables belowTop order pagesFor trackerPages uses pagesNeeded freePages useOf sameUse ramPage dataOwner useOwner owner pagesOf
 order-rules = tt

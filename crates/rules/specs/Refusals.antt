@@ -1,25 +1,27 @@
 -- 01, "When it says no": each refusal's cause, and the first in 01's order. Ends are whole-number sums; nothing wraps.
 use mathlib.Core.Bool.{Bool, not, _&&_}
-use mathlib.Core.List.{List, [], _∷_}
+use mathlib.Core.List.{List, [], _∷_, _++_}
 use mathlib.Core.Option.{none, some}
-use Prim.Native.Nat.{ℕ, zero, suc, _+_, _-_, _/_, _%_, min, max}
+use Prim.Native.Nat.{ℕ, zero, suc, _+_, _-_, _*_, _/_, _%_}
 use lib.ListN.{length}
 use lib.Dec.{leb, ltb, eqb}
 use Rattle.notation.specs.Choice.{choose, any}
 use Rattle.notation.specs.Lists.{sum, findLast, exists}
+use Rattle.types.specs.declared.Area.{Area}
 use Rattle.types.specs.declared.Verdict.{Verdict}
+use Rattle.rules.specs.Lent.{Image, endOf, pagesIn, shareAddress}
 use Rattle.rules.specs.Block.{format, lengthField, processCount, processOffset, sectionCount, sectionOffset, regionCount, regionOffset, sectionsAt, regionsAt, tightLength}
-use Rattle.rules.specs.Block.{entryPoint, firstSection, sectionsOf, kind, sectionRecord, address, size, flashOffset, flags, noCopy, writable, executable, sectionEnd, firstPage, lastPage}
-use Rattle.rules.specs.Block.{regionStart, regionPages, regionEnd, ioPagesOf}
+use Rattle.rules.specs.Block.{entryPoint, firstSection, sectionsOf, kind, stackFirst, sectionRecord, address, size, flashOffset, flags, noCopy, writable, executable, sectionEnd, firstPage, lastPage}
+use Rattle.rules.specs.Block.{regionStart, regionPages, regionArea, ioPagesOf}
 use Rattle.rules.specs.Order.{pagesNeeded}
 
--- 1: RAM of `len` bytes from `start` on is not whole pages, is over 4,096 pages, does not start at a multiple of 4,096, or ends past 2^32
-unfoldable pub ramUnfit : ℕ → ℕ → Bool
-ramUnfit start len = any
-    (not (eqb (len % 4096) 0)
-    ∷ ltb 4096 (len / 4096)
-    ∷ not (eqb (start % 4096) 0)
-    ∷ ltb 0x1_0000_0000 (start + len)
+-- 1: RAM is not whole pages or over 4,096 pages, its start is not a multiple of 4,096, or its end passes 2^32
+unfoldable pub ramUnfit : Area → Bool
+ramUnfit ram = any
+    (not (eqb (ram .length % 4096) 0)
+    ∷ ltb 4096 (ram .length / 4096)
+    ∷ not (eqb (ram .start % 4096) 0)
+    ∷ ltb 0x1_0000_0000 (endOf ram)
     ∷ [])
 
 -- 2
@@ -82,23 +84,23 @@ unfoldable pub hasSection : List ℕ → ℕ → ℕ → Bool
 hasSection b n i = leb (firstSection b (i + 1)) n && ltb n (firstSection b (i + 1) + sectionsOf b (i + 1))
 
 -- the process that owns section record n, 0 where none does: where 6 is not given, each n below s has one owner (`section-owner` in
--- demands/Sections)
+-- accepted/Sections)
 unfoldable pub ownerOf : List ℕ → ℕ → ℕ
 ownerOf b n = elim (findLast (hasSection b n) (processCount b)) [ none ↦ 0 | some i ↦ i + 1 ]
 
--- the range for the sections of process q: its first and its last address
+-- the range for the sections of process q: its first and its last address. For a user process it ends below the stack, at 0x7FFFBFFF
 unfoldable pub rangeFirst : ℕ → ℕ
 rangeFirst q = choose (eqb q 1) 0xFFC0_0000 0x0000_1000
 
-unfoldable pub rangeLast : ℕ → ℕ
-rangeLast q = choose (eqb q 1) 0xFFEF_FFFF 0x7FFF_BFFF
+unfoldable pub rangeLast : List ℕ → ℕ → ℕ
+rangeLast b q = choose (eqb q 1) 0xFFEF_FFFF (4096 * stackFirst b q - 1)
 
 -- 8, for section record n: it is not wholly in its owner's range, or its first page is not above the last page of the same process's
 -- previous section
 unfoldable pub sectionMisplaced : List ℕ → ℕ → Bool
 sectionMisplaced b n = any
     (ltb (address b n) (rangeFirst (ownerOf b n))
-    ∷ ltb (rangeLast (ownerOf b n) + 1) (sectionEnd b n)
+    ∷ ltb (rangeLast b (ownerOf b n) + 1) (sectionEnd b n)
     ∷ (not (eqb n (firstSection b (ownerOf b n))) && leb (firstPage b n) (lastPage b (n - 1)))
     ∷ [])
 
@@ -113,25 +115,21 @@ entryPointOutside b i = not (exists (λ j.
     executable b n && (leb (address b n) (entryPoint b (i + 1)) && ltb (entryPoint b (i + 1)) (sectionEnd b n)))
     (sectionsOf b (i + 1)))
 
--- two areas, each from its start up to and without its end, share an address
-unfoldable pub shareAddress : ℕ → ℕ → ℕ → ℕ → Bool
-shareAddress start end start′ end′ = ltb (max start start′) (min end end′)
-
 -- 11, for region record i: its start is not a multiple of 4,096, its pages are 0, it ends past 2^32, starts below the end of the
 -- region before, shares an address with RAM, or brings the I/O total over 4,096
-unfoldable pub regionUnfit : List ℕ → ℕ → ℕ → ℕ → Bool
-regionUnfit b start len i = any
+unfoldable pub regionUnfit : List ℕ → Area → ℕ → Bool
+regionUnfit b ram i = any
     (not (eqb (regionStart b i % 4096) 0)
     ∷ eqb (regionPages b i) 0
-    ∷ ltb 0x1_0000_0000 (regionEnd b i)
-    ∷ (ltb 0 i && ltb (regionStart b i) (regionEnd b (i - 1)))
-    ∷ shareAddress start (start + len) (regionStart b i) (regionEnd b i)
+    ∷ ltb 0x1_0000_0000 (endOf (regionArea b i))
+    ∷ (ltb 0 i && ltb (regionStart b i) (endOf (regionArea b (i - 1))))
+    ∷ shareAddress ram (regionArea b i)
     ∷ ltb 4096 (ioPagesOf b (i + 1))
     ∷ [])
 
--- 12: the pages needed exceed the pages of RAM
+-- 12: the pages needed exceed the N pages of RAM
 unfoldable pub ramTooSmall : List ℕ → ℕ → Bool
-ramTooSmall b len = ltb (len / 4096) (pagesNeeded b (len / 4096))
+ramTooSmall b N = ltb N (pagesNeeded b N)
 
 -- THE FIRST REFUSAL
 -- one step of the checks
@@ -165,26 +163,36 @@ unfoldable pub sectionRefusal : List ℕ → ℕ → ℕ → ℕ
 sectionRefusal b flash n =
     choose (sectionUnfit b n) 7 (choose (sectionMisplaced b n) 8 (choose (sectionPastFlash b flash n) 9 0))
 
--- all checks, in 01's order: block `b`, an image of `flash` bytes, RAM of `len` bytes from `start` on
-unfoldable pub checks : List ℕ → ℕ → ℕ → ℕ → List Check
-checks b flash start len =
-    whole 1 (ramUnfit start len)
-    ∷ whole 2 (blockTooShort b)
+-- ALL CHECKS, in 01's order: of what is lent, of the block's header, of its records and the room for them
+unfoldable pub lentChecks : Area → List Check
+lentChecks ram = whole 1 (ramUnfit ram) ∷ []
+
+unfoldable pub headerChecks : List ℕ → List Check
+headerChecks b =
+    whole 2 (blockTooShort b)
     ∷ whole 3 (formatUnknown b)
     ∷ whole 4 (countsOutOfBounds b)
     ∷ whole 5 (layoutNotTight b)
-    ∷ records (processCount b) (λ i. choose (processUnfit b i) 6 0)
-    ∷ records (sectionCount b) (sectionRefusal b flash)
-    ∷ records (processCount b) (λ i. choose (entryPointOutside b i) 10 0)
-    ∷ records (regionCount b) (λ i. choose (regionUnfit b start len i) 11 0)
-    ∷ whole 12 (ramTooSmall b len)
     ∷ []
 
+unfoldable pub recordChecks : Image → Area → List Check
+recordChecks x ram =
+    let b = x .block in
+    records (processCount b) (λ i. choose (processUnfit b i) 6 0)
+    ∷ records (sectionCount b) (sectionRefusal b (length (x .flash)))
+    ∷ records (processCount b) (λ i. choose (entryPointOutside b i) 10 0)
+    ∷ records (regionCount b) (λ i. choose (regionUnfit b ram i) 11 0)
+    ∷ whole 12 (ramTooSmall b (pagesIn ram .pages))
+    ∷ []
+
+unfoldable pub checks : Image → Area → List Check
+checks x ram = lentChecks ram ++ (headerChecks (x .block) ++ recordChecks x ram)
+
 -- the first in this order wins
-unfoldable pub verdict : List ℕ → ℕ → ℕ → ℕ → Verdict
-verdict b flash start len = firstRefusal (checks b flash start len)
+unfoldable pub verdict : Image → Area → Verdict
+verdict x ram = firstRefusal (checks x ram)
 
 -- all definitions of this file, to be unfolded as one
 unfoldable pub refusal-rules : Unit {0}
-unfolding ramUnfit blockTooShort formatUnknown outside countsOutOfBounds layoutNotTight sectionsBefore processUnfit sectionUnfit hasSection ownerOf rangeFirst rangeLast sectionMisplaced sectionPastFlash entryPointOutside shareAddress regionUnfit ramTooSmall refused accepted firstRecord firstRefusal sectionRefusal checks verdict
+unfolding ramUnfit blockTooShort formatUnknown outside countsOutOfBounds layoutNotTight sectionsBefore processUnfit sectionUnfit hasSection ownerOf rangeFirst rangeLast sectionMisplaced sectionPastFlash entryPointOutside regionUnfit ramTooSmall refused accepted firstRecord firstRefusal sectionRefusal lentChecks headerChecks recordChecks checks verdict
 refusal-rules = tt

@@ -7,6 +7,7 @@ use native.Mathlib.Decide.{ℕ-discrete}
 use Rattle.notation.specs.Choice.{choices}
 use Rattle.notation.specs.Lists.{tab, lists}
 use Rattle.notation.specs.Words.{word, words}
+use Rattle.types.specs.declared.PageRange.{PageRange}
 use Rattle.rules.specs.Block.{block-rules}
 use Rattle.rules.specs.Space.{sectionPage, trackerPage, processList, blockCopy, space-rules}
 use Rattle.rules.specs.Order.{Use, holds, rootTable, leafTable, trackerPages, pagesNeeded, freePages, ramPage, pagesOf, order-rules}
@@ -14,14 +15,17 @@ use Rattle.rules.specs.Entries.{entry-rules}
 use Rattle.rules.specs.Tables.{rootEntry, leafEntry, table-rules}
 use Rattle.rules.specs.Contents.{tracker, processListByte, content-rules}
 use Rattle.rules.specs.Load.{physPage, satpWord, load-rules}
-use Rattle.rules.specs.Marked.{smallBoard, examples}
+use Rattle.rules.specs.Examples.{smallBoard, example-rules}
 
 -- RAM of 16 pages at 0x40000000: the RAM page and the physical page of a use
+unfoldable pub ram : PageRange
+ram = record { base = 0x40000; pages = 16 }
+
 unfoldable pub page : Use → ℕ
 page u = ramPage smallBoard 16 u
 
 unfoldable pub phys : Use → ℕ
-phys u = physPage smallBoard 0x40000 16 u
+phys u = physPage smallBoard ram u
 
 pub record SmallBoard : Type 0 where
   -- A 11, B 10, kernel section 9, tracker 8, list 7, block copy 6
@@ -36,7 +40,7 @@ pub record SmallBoard : Type 0 where
   pub root-entries : rootEntry smallBoard phys 2 0 ∷ rootEntry smallBoard phys 2 511 ∷ rootEntry smallBoard phys 2 1023 ∷ []
       ≡ 0x1000_0801 ∷ 0x1000_0401 ∷ 0x1000_1001 ∷ []
   -- the process list: satp, entry point and stack pointer of the kernel, then of process 2
-  pub process-list : tab 6 (λ w. word (tab 24 (processListByte smallBoard (satpWord smallBoard 0x40000 16))) (4 * w))
+  pub process-list : tab 6 (λ w. word (tab 24 (processListByte smallBoard (satpWord smallBoard ram))) (4 * w))
       ≡ 0x8044_0005 ∷ 0xFFC0_0010 ∷ 0 ∷ 0x8084_0003 ∷ 0x0001_0020 ∷ 0x8000_0000 ∷ []
   -- page 0 free, then the kernel's, A and B of process 2, the four at the top, and two I/O pages
   pub tracker-bytes : tracker smallBoard 16 ≡ 0 ∷ 1 ∷ 1 ∷ 1 ∷ 1 ∷ 1 ∷ 1 ∷ 1 ∷ 1 ∷ 1 ∷ 2 ∷ 2 ∷ 1 ∷ 1 ∷ 1 ∷ 1 ∷ 0 ∷ 0 ∷ []
@@ -46,7 +50,7 @@ pub record SmallBoard : Type 0 where
   pub owners-pages : pagesOf smallBoard 16 1 ∷ pagesOf smallBoard 16 2 ∷ [] ≡ 13 ∷ 2 ∷ []
 
 pub small-board : SmallBoard
-unfolding ℕ-discrete page phys examples load-rules content-rules table-rules entry-rules order-rules space-rules block-rules words lists choices
+unfolding ℕ-discrete ram page phys example-rules load-rules content-rules table-rules entry-rules order-rules space-rules block-rules words lists choices
 small-board = record {
   data-pages = refl;
   table-pages = refl;

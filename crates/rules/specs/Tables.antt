@@ -16,7 +16,7 @@ rootEntry b phys q m =
 unfoldable pub entryFor : (Use → ℕ) → Mapping → ℕ
 entryFor phys unmapped = absentEntry
 entryFor phys stack = reservedEntry
-entryFor phys (maps d write execute user) = pageEntry (phys (holds d)) write execute user
+entryFor phys (maps d t) = pageEntry (phys (holds d)) t
 
 -- entry i of the leaf table of process q for root slot m, where the tracker has T pages
 unfoldable pub leafEntry : List ℕ → ℕ → (Use → ℕ) → ℕ → ℕ → ℕ → ℕ

@@ -1,11 +1,12 @@
 // Loads the small board of 01 and prints what that leaves in RAM: the RAM page of every use, every entry of every table that is
 // not absent, and the satp words. All is drawn from RAM by the reader, starting at the root table of process 2.
 use libc::STDOUT_FILENO;
-use ram_pages::physical;
-use small::START;
+use page_allocator::physical;
+use small_block::START;
 use std::num::wrapping_add_u32;
 use std::num::wrapping_sub_u32;
 use types::Entry;
+use types::PageRange;
 use types::PhysPage;
 use types::RamPage;
 
@@ -40,6 +41,14 @@ fn print_word(w: u32) {
     print(&text);
 }
 
+// The board's RAM.
+fn board() -> PageRange {
+    PageRange {
+        base: START / 4096,
+        pages: 16,
+    }
+}
+
 // The RAM page at a physical page.
 fn ram_page(page: PhysPage) -> u32 {
     wrapping_sub_u32(page.0, START / 4096)
@@ -61,7 +70,7 @@ fn print_use(page: PhysPage, name: &[u8]) {
 
 // The physical page that the reader answers at an address; 0 where it answers none.
 fn page_at(ram: &[u8], root: PhysPage, address: u32) -> PhysPage {
-    let entry = reader::walk(ram, START, root, address);
+    let entry = sv32_reader::walk(ram, START, root, address);
     match entry {
         Entry::Page(_, page) => page,
         Entry::Pointer(_) => PhysPage(0),
@@ -72,7 +81,7 @@ fn page_at(ram: &[u8], root: PhysPage, address: u32) -> PhysPage {
 
 // The leaf table that a root table points to in a slot; 0 where there is none.
 fn leaf_at(ram: &[u8], root: PhysPage, slot: u32) -> PhysPage {
-    let entry = entries::decode(word_of(ram, root, slot));
+    let entry = sv32_entries::decode(word_of(ram, root, slot));
     match entry {
         Entry::Pointer(page) => page,
         Entry::Page(_, _) => PhysPage(0),
@@ -111,7 +120,7 @@ fn print_uses(ram: &[u8], root: PhysPage) {
 
 fn print_if_free(tracker: &[u8], k: u32) {
     if slices::byte(tracker, k as usize) == 0 {
-        print_use(physical(START / 4096, RamPage(k)), b"free");
+        print_use(physical(board(), RamPage(k)), b"free");
     }
 }
 
@@ -128,7 +137,7 @@ fn print_free(ram: &[u8], root: PhysPage) {
 // `page 2 entry 16: 0x10002C1B`; nothing where the entry is absent.
 fn print_entry(ram: &[u8], table: PhysPage, i: u32) {
     let word = word_of(ram, table, i);
-    let entry = entries::decode(word);
+    let entry = sv32_entries::decode(word);
     if let Entry::Absent = entry {
         return;
     }
@@ -160,14 +169,14 @@ fn print_tables(ram: &[u8], root: PhysPage) {
 }
 
 fn main() {
-    let block = small::block();
-    let flash = [0u8; small::FLASH];
+    let block = small_block::block();
+    let flash = [0u8; small_block::FLASH];
     let mut ram = io::large_buffer();
     let answer = loader::load(&block, &flash, &mut ram, START);
     // The tables of the last process are the lowest pages taken, its root the highest of them.
-    let tables = leaves::table_count(&block, 2);
+    let tables = order_leaves::table_count(&block, 2);
     let highest = wrapping_add_u32(answer.free, wrapping_sub_u32(tables, 1));
-    let root = physical(START / 4096, RamPage(highest));
+    let root = physical(board(), RamPage(highest));
     print_uses(&ram, root);
     print_free(&ram, root);
     print_tables(&ram, root);

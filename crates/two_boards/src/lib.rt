@@ -1,7 +1,8 @@
-// Demand 3 as two calls: the same block and flash on two RAMs, and what a process sees on both.
+// Demands 2 and 3 as calls: one load, and what a process sees after it; and the same block and flash on two RAMs.
 ghost use mathlib.Core.Path.{_≡_};
+ghost use Rattle.rules.specs.Lent.{imageOf, ramOf};
 ghost use Rattle.two_boards.specs.Promise.{seenAt, OneBoard, TwoBoards};
-use roots::Root;
+use order_roots::Root;
 use types::Answer;
 use types::View;
 
@@ -18,11 +19,11 @@ pub struct Boards {
 
 // What is seen by way of a root, or nothing.
 fn seen_at(root: Root, ram: &[u8], start: u32, address: u32) -> View
-    ensures { λ r. ⌜ r ≡ seenAt root (now (ram .entry)) start address ⌝ }
+    ensures { λ r. ⌜ r ≡ seenAt root (ramOf start (now (ram .entry))) address ⌝ }
 {
     match root {
         Root::Nowhere => View::Absent,
-        Root::At(page) => views::seen_from(ram, start, page, address),
+        Root::At(page) => sv32_views::seen_from(ram, start, page, address),
     }
 }
 
@@ -35,9 +36,9 @@ pub fn boot_one(
     q: u32,
     address: u32,
 ) -> Board
-    ensures { λ r. ⌜ OneBoard (now (block .entry)) (now (flash .entry)) start (now (ram .entry)) (now (ram .exit)) q address r ⌝ }
+    ensures { λ r. ⌜ OneBoard (imageOf (now (block .entry)) (now (flash .entry))) (ramOf start (now (ram .entry))) (now (ram .exit)) q address r ⌝ }
 {
-    let root = roots::find_root(block, flash.len(), start, ram.len(), q);
+    let root = order_roots::find_root(block, flash, start, ram.len(), q);
     let answer = loader::load(block, flash, ram, start);
     let seen = seen_at(root, ram, start, address);
     Board { answer, seen }
@@ -54,7 +55,7 @@ pub fn boot_both(
     q: u32,
     address: u32,
 ) -> Boards
-    ensures { λ r. ⌜ TwoBoards (now (block .entry)) (now (flash .entry)) start «second_start» (now (ram .entry)) (now («second_ram» .entry)) (now (ram .exit)) (now («second_ram» .exit)) q address r ⌝ }
+    ensures { λ r. ⌜ TwoBoards (imageOf (now (block .entry)) (now (flash .entry))) (ramOf start (now (ram .entry))) (ramOf «second_start» (now («second_ram» .entry))) (now (ram .exit)) (now («second_ram» .exit)) q address r ⌝ }
 {
     let first = boot_one(block, flash, ram, start, q, address);
     let second = boot_one(block, flash, second_ram, second_start, q, address);

@@ -1,4 +1,19 @@
-// The types that the definitions, the promises and the code share.
+// The types that the definitions, the promises and the code share, and numbers of the format that the code names.
+
+// Bytes in a page.
+pub const PAGE_BYTES: u32 = 4096;
+
+// Entries in a page table.
+pub const TABLE_ENTRIES: u32 = 1024;
+
+// The root slot of the kernel's 4 MiB: a root table's last.
+pub const KERNEL_SLOT: u32 = 1023;
+
+// The root slot of a user process's stack.
+pub const STACK_SLOT: u32 = 511;
+
+// The pages at the top of RAM that no load takes: the loader's stack and its guard.
+pub const TOP_PAGES: u32 = 4;
 
 // A RAM page number: RAM page k starts at RAM's start + 4,096 k.
 pub struct RamPage(pub u32);
@@ -8,6 +23,18 @@ pub struct VirtPage(pub u32);
 
 // A physical page number (PPN): a physical address / 4,096.
 pub struct PhysPage(pub u32);
+
+// Physical addresses from `start` on: `length` bytes.
+pub struct Area {
+    pub start: u32,
+    pub length: u32,
+}
+
+// RAM as whole pages: `pages` of them, from physical page `base` on.
+pub struct PageRange {
+    pub base: u32,
+    pub pages: u32,
+}
 
 // The rights of a page: what may be done with its bytes, and whether a user program may do it.
 pub struct Rights {

@@ -1,6 +1,6 @@
 -- Writing the pages of all uses in order leaves RAM as the rules say.
 use mathlib.Core.Path.{_≡_, refl, _∙_}
-use mathlib.Core.List.{List, _∷_, _++_}
+use mathlib.Core.List.{List, [], _∷_, _++_}
 use mathlib.Core.Option.{Option, none, some}
 use mathlib.Core.Bool.{Bool, true, false}
 use Prim.Native.Nat.{ℕ, _+_, _-_, _*_, _/_, _≤_, _<_}
@@ -8,36 +8,26 @@ use native.Mathlib.Decide.{decLt}
 use native.Mathlib.Omega.{arith}
 use lib.ListN.{length, length-append}
 use Rattle.notation.specs.Lists.{tab, gather, lookup}
-use Rattle.rules.specs.Block.{processCount, sectionsOf, sectionRecord, pageCount}
-use Rattle.rules.specs.Space.{sectionPage, trackerPage, processList, blockCopy}
-use Rattle.rules.specs.Order.{Use, top, holds, rootTable, leafTable, sectionUses, hasLeaf, tableUses, order, uses, trackerPages, pagesNeeded, useOf}
+use Rattle.rules.specs.Block.{sectionRecord}
+use Rattle.types.specs.declared.PageRange.{PageRange}
+use Rattle.rules.specs.Lent.{Image, Ram, imageOf, ramArea, pagesIn}
+use Rattle.rules.specs.Space.{sectionPage}
+use Rattle.rules.specs.Order.{Use, top, holds, rootTable, leafTable, sectionPages, sectionUses, allSections, trackerUses, hasLeaf, tableUses, allTables, belowTop, order, uses, trackerPages, pagesNeeded, useOf}
 use Rattle.rules.specs.Contents.{sectionPageByte, dataByte}
 use Rattle.rules.specs.Load.{pageByte, loaded}
 use Rattle.laws.specs.Choice.{by-choose}
 use Rattle.laws.specs.Lists.{Every, every-at, every-append, every-tab, every-gather, tab-length, tab-by, lookup-right}
-use Rattle.placement.specs.Uses.{use-top}
-use Rattle.writing.specs.Uses.{writeUses, write-length, write-above, afterUse, write-byte, write-same}
+use Rattle.order_laws.specs.Uses.{use-top}
+use Rattle.accepted.specs.Fits.{Whole}
+use Rattle.writing.specs.Uses.{writeUses, write-length, write-above, afterUse, write-byte, write-same, Wrote, wrote-none, wrote-then, wrote-tab-none, wrote-tab-next, wrote-gather-none, wrote-gather-next}
 
 -- byte o of the page of a use that is written
-unfoldable pub content : List ℕ → List ℕ → ℕ → ℕ → Use → ℕ → ℕ
-content b flash base N u o = pageByte b flash base N (some u) 0 o
-
--- the uses below the four at the top
-unfoldable pub belowTop : List ℕ → ℕ → List Use
-belowTop b T =
-    gather (processCount b - 1) (λ i. sectionUses b (i + 2))
-    ++ (sectionUses b 1
-    ++ (tab T (λ i. holds (trackerPage i))
-    ++ (holds processList
-    ∷ holds blockCopy
-    ∷ gather (processCount b) (λ i. tableUses b (i + 1)))))
-
-pub order-below-top : (b : List ℕ) (T : ℕ) → order b T ≡ tab 4 top ++ belowTop b T
-unfolding order belowTop
-order-below-top b T = refl
+unfoldable pub content : Image → PageRange → Use → ℕ → ℕ
+content x ram u o = pageByte x ram (some u) 0 o
 
 pub below-top-length : (b : List ℕ) (T : ℕ) → length (order b T) ≡ 4 + length (belowTop b T)
-below-top-length b T = rw order-below-top (length-append (tab 4 top) (belowTop b T) ∙ rw tab-length)
+unfolding order
+below-top-length b T = length-append (tab 4 top) (belowTop b T) ∙ rw tab-length
 
 -- they are all written
 isTop : Use → Bool
@@ -50,14 +40,14 @@ abbrev Written : Use → Type 0
 Written u = isTop u ≡ false
 
 sections-written : (b : List ℕ) (q : ℕ) → Every Written (sectionUses b q)
-unfolding sectionUses isTop
+unfolding sectionUses sectionPages isTop
 sections-written b q = every-gather Written _ _ (λ j _. every-tab Written _ _ (λ i _. refl))
 
 below-top-written : (b : List ℕ) (T : ℕ) → Every Written (belowTop b T)
-unfolding belowTop tableUses isTop
+unfolding belowTop allSections trackerUses allTables tableUses isTop
 below-top-written b T =
-    every-append Written (gather _ _) _ (every-gather Written _ _ (λ i _. sections-written b (i + 2)))
-    (every-append Written (sectionUses b 1) _ (sections-written b 1)
+    every-append Written (gather _ _ ++ _) _
+    (every-append Written (gather _ _) _ (every-gather Written _ _ (λ i _. sections-written b (i + 2))) (sections-written b 1))
     (every-append Written (tab T _) _ (every-tab Written T _ (λ i _. refl)) (
       refl,
       (
@@ -65,74 +55,93 @@ below-top-written b T =
         every-gather Written _ _ (λ i _.
             (refl, every-gather Written 1024 _ (λ m _. by-choose (Every Written) (hasLeaf b (i + 1) m) _ _ (λ _. (refl, tt)) (λ _. tt)))),
       ),
-    )))
+    ))
 
-written-byte : (b flash : List ℕ) (base N : ℕ) (u : Use) (old o : ℕ) → Written u → content b flash base N u o ≡ pageByte b flash base N (some u) old o
+written-byte : (x : Image) (ram : PageRange) (u : Use) (old o : ℕ) → Written u → content x ram u o ≡ pageByte x ram (some u) old o
 unfolding content pageByte isTop
-written-byte b flash base N (top i) old o e = cc
-written-byte b flash base N (holds d) old o e = refl
-written-byte b flash base N (rootTable q) old o e = refl
-written-byte b flash base N (leafTable q m) old o e = refl
+written-byte x ram (top i) old o e = cc
+written-byte x ram (holds d) old o e = refl
+written-byte x ram (rootTable q) old o e = refl
+written-byte x ram (leafTable q m) old o e = refl
 
-after-use : (b flash : List ℕ) (base N : ℕ) (us : List Use) → Every Written us → (i old o : ℕ) (m : Option Use) → lookup us i ≡ m
-    → afterUse (content b flash base N) m old o ≡ pageByte b flash base N m old o
+after-use : (x : Image) (ram : PageRange) (us : List Use) → Every Written us → (i old o : ℕ) (m : Option Use) → lookup us i ≡ m
+    → afterUse (content x ram) m old o ≡ pageByte x ram m old o
 unfolding afterUse pageByte
-after-use b flash base N us w i old o none e = refl
-after-use b flash base N us w i old o (some u) e = written-byte b flash base N u old o (every-at Written us i w e)
+after-use x ram us w i old o none e = refl
+after-use x ram us w i old o (some u) e = written-byte x ram u old o (every-at Written us i w e)
 
 use-below : (b : List ℕ) (N k : ℕ) → k < N - 4 → useOf b N k ≡ lookup (belowTop b (trackerPages b N)) (N - 4 - 1 - k)
-unfolding useOf uses
+unfolding useOf uses order
 use-below b N k h =
     let e : N - 1 - k ≡ length (tab 4 top) + (N - 4 - 1 - k) = rw tab-length (omega arith) in
-    rw (order-below-top, e) (lookup-right (tab 4 top) _ _)
+    rw e (lookup-right (tab 4 top) _ _)
 
-pub written-is-loaded : (b flash : List ℕ) (start : ℕ) (ram : List ℕ)
-    → 4096 * (length ram / 4096) ≡ length ram → pagesNeeded b (length ram / 4096) ≤ length ram / 4096
-    → writeUses (content b flash (start / 4096) (length ram / 4096)) ram (length ram / 4096 - 4) (belowTop b (trackerPages b (length ram / 4096)))
-    ≡ loaded b flash start ram
+pub written-is-loaded : (x : Image) (r : Ram) → Whole (ramArea r) → pagesNeeded (x .block) (pagesIn (ramArea r) .pages) ≤ pagesIn (ramArea r) .pages
+    → writeUses (content x (pagesIn (ramArea r))) (r .bytes) (pagesIn (ramArea r) .pages - 4) (belowTop (x .block) (trackerPages (x .block) (pagesIn (ramArea r) .pages)))
+    ≡ loaded x r
 unfolding loaded pagesNeeded uses pageByte
-written-is-loaded b flash start ram whole enough =
-    let N : ℕ = length ram / 4096 in
+written-is-loaded x r whole enough =
+    let b : List ℕ = x .block in
+    let N : ℕ = length (r .bytes) / 4096 in
     let us : List Use = belowTop b (trackerPages b N) in
-    let c : Use → ℕ → ℕ = content b flash (start / 4096) N in
+    let c : Use → ℕ → ℕ = content x (pagesIn (ramArea r)) in
     let l : length us + 4 ≤ N = omega (arith, below-top-length b (trackerPages b N)) in
-    tab-by (length ram) _ 0 _ (write-length c ram (N - 4) us) (λ x h. elim (decLt (x / 4096) (N - 4)) [
-      | yes g ↦ write-byte c ram (N - 4) us x (omega arith) h g
-          ∙ after-use b flash (start / 4096) N us (below-top-written b (trackerPages b N)) _ _ _ _ refl ∙ rw (use-below b N (x / 4096) g)
-      | no g ↦ write-above c ram (N - 4) us x (omega arith) h (omega arith) ∙ rw (use-top b N (x / 4096) (omega arith) (omega arith))
+    tab-by (length (r .bytes)) _ 0 _ (write-length c (r .bytes) (N - 4) us) (λ k h. elim (decLt (k / 4096) (N - 4)) [
+      | yes g ↦ write-byte c (r .bytes) (N - 4) us k (omega arith) h g
+          ∙ after-use x (pagesIn (ramArea r)) us (below-top-written b (trackerPages b N)) _ _ _ _ refl ∙ rw (use-below b N (k / 4096) g)
+      | no g ↦ write-above c (r .bytes) (N - 4) us k (omega arith) h (omega (arith, whole .length-whole)) ∙ rw (use-top b N (k / 4096) (omega arith) (omega (arith, whole .length-whole)))
     ])
 
--- SECTIONS
--- the pages of section j of process q
-unfoldable pub sectionPages : List ℕ → ℕ → ℕ → List Use
-sectionPages b q j = tab (pageCount b (sectionRecord b q j)) (λ i. holds (sectionPage q j i))
+-- SECTIONS: the bytes of a section's page depend on no board
+unfoldable pub sectionContent : Image → Use → ℕ → ℕ
+sectionContent x = content x (record { base = 0; pages = 0 })
 
-pub section-uses-pages : (b : List ℕ) (q : ℕ) → sectionUses b q ≡ gather (sectionsOf b q) (sectionPages b q)
-unfolding sectionUses sectionPages
-section-uses-pages b q = refl
-
-pub section-pages-length : (b : List ℕ) (q j : ℕ) → length (sectionPages b q j) ≡ pageCount b (sectionRecord b q j)
-unfolding sectionPages
-section-pages-length b q j = tab-length _ _
-
--- the bytes of a section's page depend on no board
-unfoldable pub sectionContent : List ℕ → List ℕ → Use → ℕ → ℕ
-sectionContent b flash = content b flash 0 0
-
-pub section-content : (b flash : List ℕ) (q j i o : ℕ) → sectionContent b flash (holds (sectionPage q j i)) o ≡ sectionPageByte b flash (sectionRecord b q j) i o
+pub section-content : (x : Image) (q j i o : ℕ) → sectionContent x (holds (sectionPage q j i)) o ≡ sectionPageByte x (sectionRecord (x .block) q j) i o
 unfolding sectionContent content pageByte dataByte
-section-content b flash q j i o = refl
+section-content x q j i o = refl
 
--- all sections: those of process 2, 3 and so on, then the kernel's
-unfoldable pub allSections : List ℕ → List Use
-allSections b = gather (processCount b - 1) (λ i. sectionUses b (i + 2)) ++ sectionUses b 1
+same-bytes : (x : Image) (ram : PageRange) (q : ℕ) → Every (λ u. (o : ℕ) → o < 4096 → sectionContent x u o ≡ content x ram u o) (sectionUses (x .block) q)
+unfolding sectionUses sectionPages sectionContent content pageByte dataByte
+same-bytes x ram q = every-gather _ _ _ (λ j _. every-tab _ _ _ (λ i _ o _. refl))
 
-same-bytes : (b flash : List ℕ) (base N q : ℕ) → Every (λ u. (o : ℕ) → o < 4096 → sectionContent b flash u o ≡ content b flash base N u o) (sectionUses b q)
-unfolding sectionUses sectionContent content pageByte dataByte
-same-bytes b flash base N q = every-gather _ _ _ (λ j _. every-tab _ _ _ (λ i _ o _. refl))
-
-pub write-sections : (b flash : List ℕ) (base N : ℕ) (r : List ℕ) (n : ℕ)
-    → writeUses (sectionContent b flash) r n (allSections b) ≡ writeUses (content b flash base N) r n (allSections b)
+pub wrote-sections : (x : Image) (ram : PageRange) {r₀ : List ℕ} {n₀ : ℕ} {r : List ℕ} {n : ℕ}
+    → Wrote (sectionContent x) (allSections (x .block)) r₀ n₀ r n → Wrote (content x ram) (allSections (x .block)) r₀ n₀ r n
 unfolding allSections
-write-sections b flash base N r n =
-    write-same _ _ r n _ (every-append _ (gather _ _) _ (every-gather _ _ _ (λ i _. same-bytes b flash base N (i + 2))) (same-bytes b flash base N 1))
+wrote-sections x ram {r₀} {n₀} w = record {
+  long = w .long;
+  left = w .left;
+  bytes = w .bytes
+      ∙ write-same _ _ r₀ n₀ _ (every-append _ (gather _ _) _ (every-gather _ _ _ (λ i _. same-bytes x ram (i + 2))) (same-bytes x ram 1));
+}
+
+-- THE OTHER USES, whatever flash holds
+pub record WroteAny (b : List ℕ) (ram : PageRange) (us : List Use) (r₀ : List ℕ) (n₀ : ℕ) (r : List ℕ) (n : ℕ) : Type 0 where
+  pub long : length r ≡ length r₀
+  pub left : n ≡ n₀ - length us
+  pub wrote : (flash : List ℕ) → Wrote (content (imageOf b flash) ram) us r₀ n₀ r n
+
+module _ {b : List ℕ} {ram : PageRange} where
+  pub wrote-any : {us : List Use} {r₀ : List ℕ} {n₀ : ℕ} {r : List ℕ} {n : ℕ} → ((flash : List ℕ) → Wrote (content (imageOf b flash) ram) us r₀ n₀ r n)
+      → WroteAny b ram us r₀ n₀ r n
+  wrote-any w = record { long = w [] .long; left = w [] .left; wrote = w }
+
+  pub any-none : (r : List ℕ) (n : ℕ) → WroteAny b ram [] r n r n
+  any-none r n = wrote-any (λ flash. wrote-none _ r n)
+
+  pub any-then : {us vs : List Use} {r₀ : List ℕ} {n₀ : ℕ} {r : List ℕ} {n : ℕ} {r′ : List ℕ} {n′ : ℕ}
+      → WroteAny b ram us r₀ n₀ r n → WroteAny b ram vs r n r′ n′ → WroteAny b ram (us ++ vs) r₀ n₀ r′ n′
+  any-then w v = wrote-any (λ flash. wrote-then (w .wrote flash) (v .wrote flash))
+
+  pub any-tab-none : (f : ℕ → Use) (r : List ℕ) (n : ℕ) → WroteAny b ram (tab 0 f) r n r n
+  any-tab-none f r n = wrote-any (λ flash. wrote-tab-none _ f r n)
+
+  pub any-tab-next : (f : ℕ → Use) (i : ℕ) {r₀ : List ℕ} {n₀ : ℕ} {r : List ℕ} {n : ℕ} {r′ : List ℕ} {n′ : ℕ}
+      → WroteAny b ram (tab i f) r₀ n₀ r n → WroteAny b ram (f i ∷ []) r n r′ n′ → WroteAny b ram (tab (i + 1) f) r₀ n₀ r′ n′
+  any-tab-next f i w v = wrote-any (λ flash. wrote-tab-next _ f i (w .wrote flash) (v .wrote flash))
+
+  pub any-gather-none : (f : ℕ → List Use) (r : List ℕ) (n : ℕ) → WroteAny b ram (gather 0 f) r n r n
+  any-gather-none f r n = wrote-any (λ flash. wrote-gather-none _ f r n)
+
+  pub any-gather-next : (f : ℕ → List Use) (i : ℕ) {r₀ : List ℕ} {n₀ : ℕ} {r : List ℕ} {n : ℕ} {r′ : List ℕ} {n′ : ℕ}
+      → WroteAny b ram (gather i f) r₀ n₀ r n → WroteAny b ram (f i) r n r′ n′ → WroteAny b ram (gather (i + 1) f) r₀ n₀ r′ n′
+  any-gather-next f i w v = wrote-any (λ flash. wrote-gather-next _ f i (w .wrote flash) (v .wrote flash))

@@ -4,9 +4,10 @@ use mathlib.Core.List.{List, [], _∷_, _++_}
 use mathlib.Core.Option.{Option, none, some}
 use Prim.Native.Nat.{ℕ, suc, _+_, _-_, _/_, _%_, _≤_, _<_}
 use native.Mathlib.Decide.{ℕ-discrete}
+use native.Mathlib.Numerals.{add-one}
 use native.Mathlib.Omega.{arith}
 use lib.ListN.{length, getD, length-append}
-use Rattle.notation.specs.Lists.{tab, lookup}
+use Rattle.notation.specs.Lists.{tab, gather, lookup}
 use Rattle.rules.specs.Order.{Use}
 use Rattle.laws.specs.Lists.{Every, tab-length, tab-next}
 use Rattle.writing.specs.Pages.{put, put-length, put-in, put-out, put-same}
@@ -81,7 +82,7 @@ unfolding writeUses
 write-same c c′ r n [] e = refl
 write-same c c′ r n (u ∷ us) e = rw (put-same r (n - 1) (c u) (c′ u) (e .0)) (write-same c c′ _ (n - 1) us (e .1))
 
--- RAM r₀ with n₀ pages left became r with n pages left when these uses were written
+-- WRITTEN: RAM r₀ with n₀ pages left became r with n pages left when these uses were written
 pub record Wrote (c : Use → ℕ → ℕ) (us : List Use) (r₀ : List ℕ) (n₀ : ℕ) (r : List ℕ) (n : ℕ) : Type 0 where
   pub long : length r ≡ length r₀
   pub left : n ≡ n₀ - length us
@@ -91,16 +92,37 @@ pub wrote-none : (c : Use → ℕ → ℕ) (r : List ℕ) (n : ℕ) → Wrote c 
 unfolding writeUses
 wrote-none c r n = record { long = refl; left = omega arith; bytes = refl }
 
--- and then some more
-pub wrote-more : {c : Use → ℕ → ℕ} {us : List Use} (vs : List Use) {r₀ : List ℕ} {n₀ : ℕ} {r : List ℕ} {n : ℕ} {r′ : List ℕ} {n′ : ℕ}
-    → Wrote c us r₀ n₀ r n → n′ ≡ n - length vs → r′ ≡ writeUses c r n vs → Wrote c (us ++ vs) r₀ n₀ r′ n′
-wrote-more {c} {us} vs {r₀} {n₀} {r} {n} w l e = record {
-  long = ap length e ∙ write-length c r n vs ∙ w .long;
-  left = simp length-append (omega (arith, w .left));
-  bytes = e ∙ rw (w .left, w .bytes) (sym (write-append c r₀ n₀ us vs));
+-- one page
+pub wrote-page : {c : Use → ℕ → ℕ} (u : Use) {r : List ℕ} {n : ℕ} {r′ : List ℕ} {n′ k : ℕ} (f : ℕ → ℕ)
+    → n′ ≡ n - 1 → k ≡ n - 1 → r′ ≡ put r k f → ((o : ℕ) → o < 4096 → f o ≡ c u o) → Wrote c (u ∷ []) r n r′ n′
+wrote-page {c} u {r} {n} f l k e s =
+    let p : put r (n - 1) f ≡ put r (n - 1) (c u) = put-same r (n - 1) f (c u) s in
+    record { long = ap length e ∙ put-length r _ f; left = l; bytes = e ∙ rw k (p ∙ sym (write-one c r n u)) }
+
+-- first some, then some more
+pub wrote-then : {c : Use → ℕ → ℕ} {us vs : List Use} {r₀ : List ℕ} {n₀ : ℕ} {r : List ℕ} {n : ℕ} {r′ : List ℕ} {n′ : ℕ}
+    → Wrote c us r₀ n₀ r n → Wrote c vs r n r′ n′ → Wrote c (us ++ vs) r₀ n₀ r′ n′
+wrote-then {c} {us} {vs} {r₀} {n₀} w v = record {
+  long = v .long ∙ w .long;
+  left = simp length-append (omega (arith, w .left, v .left));
+  bytes = v .bytes ∙ rw (w .left, w .bytes) (sym (write-append c r₀ n₀ us vs));
 }
 
--- and then one page more
-pub wrote-page : {c : Use → ℕ → ℕ} {us : List Use} (u : Use) {r₀ : List ℕ} {n₀ : ℕ} {r : List ℕ} {n : ℕ} {r′ : List ℕ} {n′ k : ℕ} (f : ℕ → ℕ)
-    → Wrote c us r₀ n₀ r n → n′ ≡ n - 1 → k ≡ n - 1 → r′ ≡ put r k f → ((o : ℕ) → o < 4096 → f o ≡ c u o) → Wrote c (us ++ (u ∷ [])) r₀ n₀ r′ n′
-wrote-page {c} u {r = r} {n = n} f w l k e s = wrote-more (u ∷ []) w l (e ∙ rw k (put-same r (n - 1) f (c u) s ∙ sym (write-one c r n u)))
+-- a list of uses given by a rule, and one more of it
+module _ (c : Use → ℕ → ℕ) where
+  pub wrote-tab-none : (f : ℕ → Use) (r : List ℕ) (n : ℕ) → Wrote c (tab 0 f) r n r n
+  unfolding tab
+  wrote-tab-none f r n = wrote-none c r n
+
+  pub wrote-tab-next : (f : ℕ → Use) (i : ℕ) {r₀ : List ℕ} {n₀ : ℕ} {r : List ℕ} {n : ℕ} {r′ : List ℕ} {n′ : ℕ}
+      → Wrote c (tab i f) r₀ n₀ r n → Wrote c (f i ∷ []) r n r′ n′ → Wrote c (tab (i + 1) f) r₀ n₀ r′ n′
+  wrote-tab-next f i w v = rw (add-one, tab-next) (wrote-then w v)
+
+  pub wrote-gather-none : (f : ℕ → List Use) (r : List ℕ) (n : ℕ) → Wrote c (gather 0 f) r n r n
+  unfolding gather
+  wrote-gather-none f r n = wrote-none c r n
+
+  pub wrote-gather-next : (f : ℕ → List Use) (i : ℕ) {r₀ : List ℕ} {n₀ : ℕ} {r : List ℕ} {n : ℕ} {r′ : List ℕ} {n′ : ℕ}
+      → Wrote c (gather i f) r₀ n₀ r n → Wrote c (f i) r n r′ n′ → Wrote c (gather (i + 1) f) r₀ n₀ r′ n′
+  unfolding gather
+  wrote-gather-next f i w v = rw add-one (wrote-then w v)

@@ -1,4 +1,5 @@
-use Rattle.demands.specs.Boot.{accepted-fits}
+use Rattle.rules.specs.Lent.{imageOf, ramOf}
+use Rattle.accepted.specs.Fits.{accepted}
 use Rattle.loader.proofs.Accepted.{tracker-few, free-le, refused-answer, boot-answer}
 use native.Mathlib.Omega.{arith}
 use borrow.Author.Needs.{needs}
@@ -12,14 +13,14 @@ returns : tie.Need-returns
 returns c =
     let checked = c .before .before in
     let start = checked .before .before .before .before in
-    refused-answer _ (start .args .flash .now) _ (start .args .ram .now) _ (checked .check .ensures) (c .if1 .taken)
+    refused-answer (imageOf _ (start .args .flash .now)) (ramOf _ (start .args .ram .now)) _ (checked .check .ensures) (c .if1 .taken)
 
 cast-pages : tie.Need-cast-pages
 cast-pages c =
     let checked = c .before .before in
     let start = checked .before .before .before .before in
-    let ok = accepted-fits _ _ _ _ _ (checked .check .ensures) (c .if1 .left) in
-    omega (arith, ok .0 .few-pages)
+    let ok = accepted _ _ _ (checked .check .ensures) (c .if1 .left) in
+    omega (arith, ok .room .few-pages)
 
 tracker-pages-requires : tie.Need-tracker-pages-requires
 tracker-pages-requires c κs = search needs
@@ -27,14 +28,14 @@ tracker-pages-requires c κs = search needs
 cast-tracker : tie.Need-cast-tracker
 cast-tracker c =
     let checked = c .before .before .before in
-    let ok = accepted-fits _ _ _ _ _ (checked .check .ensures) (c .before .if1 .left) in
-    omega (arith, tracker-few _ _ _ (ok .0), c .tracker-pages .ensures .0)
+    let ok = accepted _ _ _ (checked .check .ensures) (c .before .if1 .left) in
+    omega (arith, tracker-few _ _ (ok .room), c .tracker-pages .ensures .0)
 
 load-pages-requires : tie.Need-load-pages-requires
 load-pages-requires c κs =
     let checked = c .before .before .before .before in
     let start = checked .before .before .before .before in
-    let ok = accepted-fits _ _ _ _ _ (checked .check .ensures) (c .before .before .if1 .left) in
+    let ok = accepted _ _ _ (checked .check .ensures) (c .before .before .if1 .left) in
     ok
 
 sub-t15 : tie.Need-sub-t15
@@ -47,10 +48,10 @@ returns-2 : tie.Need-returns-2
 returns-2 c =
     let checked = c .before .before .before .before .before .before .before in
     let start = checked .before .before .before .before in
-    let ok = accepted-fits _ _ _ _ _ (checked .check .ensures) (c .before .before .before .before .before .if1 .left) in
+    let ok = accepted _ _ _ (checked .check .ensures) (c .before .before .before .before .before .if1 .left) in
     let loaded = c .before .before in
-    boot-answer _ (start .args .flash .now) _ (start .args .ram .now) _ _ _ _ (checked .check .ensures) (c .before .before .before .before .before .if1 .left)
-    (ok .0) (loaded .load-pages .ensures .0) (loaded .before .before .tracker-pages .ensures .0) (loaded .load-pages .ensures .1)
+    boot-answer (imageOf _ (start .args .flash .now)) (ramOf _ (start .args .ram .now)) _ (checked .check .ensures) _ _ _ (c .before .before .before .before .before .if1 .left)
+    (ok .room) (loaded .load-pages .ensures .0) (loaded .before .before .tracker-pages .ensures .0) (loaded .load-pages .ensures .1)
 
 pub load-spec : {M : Type 1} → statement M
 load-spec =

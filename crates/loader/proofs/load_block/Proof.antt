@@ -1,5 +1,5 @@
 use Rattle.writing.specs.Pages.{put-part}
-use Rattle.loader.proofs.Loading.{block-content}
+use mathlib.Core.Path.{_∙_}
 use borrow.Author.Needs.{needs}
 use Rattle.loader.proofs.load_block.Statement.{statement}
 use Rattle.loader.proofs.load_block.Tie as tie
@@ -43,8 +43,7 @@ returns c =
     let at = page .before .before in
     let got = at .before .before .before .allocate .ensures in (
       got .1,
-      λ flash base N. block-content _ flash base N _ _ _ _ (got .0)
-          (put-part _ _ _ _ _ _ (at .before .least .ensures) (at .least2 .ensures) (page .block-page .ensures)),
+      put-part _ _ _ _ _ _ (at .before .least .ensures) (at .least2 .ensures) (page .block-page .ensures) ∙ rw (got .0),
     )
 
 pub load-block-spec : {M : Type 1} → statement M

@@ -1,7 +1,7 @@
 use mathlib.Core.Path.{_≡_}
 use Prim.Native.Nat.{_-_, _≤_}
 use Rattle.rules.specs.Block.{processCount}
-use Rattle.placement.specs.Places.{userPages}
+use Rattle.order_laws.specs.Places.{userPages}
 use Rattle.report.proofs.Owned.{users-none, users-next}
 use native.Mathlib.Omega.{arith}
 use borrow.Author.Needs.{needs}

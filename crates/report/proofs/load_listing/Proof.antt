@@ -1,4 +1,5 @@
-use Rattle.report.proofs.Laws.{listed-refused, listed-booted}
+use Rattle.rules.specs.Lent.{imageOf, ramOf}
+use Rattle.report.proofs.Lines.{listed-refused, listed-booted}
 use Rattle.report.proofs.Owned.{booted-kernel}
 use borrow.Author.Needs.{needs}
 use Rattle.report.proofs.load_listing.Statement.{statement}
@@ -19,7 +20,8 @@ same-length-2 c = search needs
 returns : tie.Need-returns
 returns c =
     let loaded = c .before .before .before .before .before .before .before .before in
-    (loaded .load .ensures .1, listed-refused _ _ _ _ _ (loaded .load .ensures .0) (c .before .before .before .before .if1 .taken) (c .before .before .refused-line .ensures))
+    let start = loaded .before .before .before .before .before .before in
+    (loaded .load .ensures .1, listed-refused (imageOf _ (start .args .flash .now)) (ramOf _ (start .args .ram .now)) _ (loaded .load .ensures .0) (c .before .before .before .before .if1 .taken) (c .before .before .refused-line .ensures))
 
 boot-line-requires : tie.Need-boot-line-requires
 boot-line-requires c κs = search needs
@@ -30,7 +32,8 @@ kernel-pages-requires c κs = search needs
 process-lines-requires : tie.Need-process-lines-requires
 process-lines-requires c κs =
     let tested = c .before .before .before .before .before .before in
-    booted-kernel _ _ _ _ _ (tested .before .before .before .before .load .ensures .0) (tested .if1 .left) (c .before .kernel-pages .ensures)
+    let start = tested .before .before .before .before .before .before .before .before .before .before in
+    booted-kernel (imageOf _ (start .args .flash .now)) (ramOf _ (start .args .ram .now)) _ (tested .before .before .before .before .load .ensures .0) (tested .if1 .left) (c .before .kernel-pages .ensures)
 
 same-length-3 : tie.Need-same-length-3
 same-length-3 c = search needs
@@ -43,7 +46,8 @@ returns-2 c =
     let boot = c .before .before .before .before .before .before .before in
     let tested = boot .before .before in
     let loaded = tested .before .before .before .before in
-    (loaded .load .ensures .1, listed-booted _ _ _ _ _ (loaded .load .ensures .0) (tested .if1 .left) (boot .boot-line .ensures) (c .before .before .process-lines .ensures))
+    let start = loaded .before .before .before .before .before .before in
+    (loaded .load .ensures .1, listed-booted (imageOf _ (start .args .flash .now)) (ramOf _ (start .args .ram .now)) _ (loaded .load .ensures .0) (tested .if1 .left) (boot .boot-line .ensures) (c .before .before .process-lines .ensures))
 
 pub load-listing-spec : {M : Type 1} → statement M
 load-listing-spec =

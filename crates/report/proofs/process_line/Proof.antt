@@ -1,4 +1,4 @@
-use Rattle.text.proofs.Laws.{appended-then}
+use Rattle.text.proofs.Appended.{appended-then}
 use Rattle.report.specs.Lines.{processLine}
 use borrow.Author.Needs.{needs}
 use Rattle.report.proofs.process_line.Statement.{statement}

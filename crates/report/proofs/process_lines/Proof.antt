@@ -1,10 +1,11 @@
 use mathlib.Core.Path.{_≡_}
-use Prim.Native.Nat.{_+_, _-_, _/_, _≤_}
+use Prim.Native.Nat.{_+_, _-_, _≤_}
+use Rattle.rules.specs.Lent.{areaOf, pagesIn}
 use Rattle.rules.specs.Block.{processCount}
 use Rattle.text.specs.Text.{Appended}
 use Rattle.report.specs.Listing.{processLines}
-use Rattle.text.proofs.Laws.{appended-none, appended-length}
-use Rattle.report.proofs.Laws.{lines-none, lines-next}
+use Rattle.text.proofs.Appended.{appended-none, appended-length}
+use Rattle.report.proofs.Lines.{lines-none, lines-next}
 use Rattle.report.proofs.Owned.{pages-owned}
 use native.Mathlib.Omega.{arith}
 use borrow.Author.Needs.{needs}
@@ -12,7 +13,7 @@ use Rattle.report.proofs.process_lines.Statement.{statement}
 use Rattle.report.proofs.process_lines.Tie as tie
 
 abbrev Inv-loop : tie.InvT-loop
-Inv-loop to₀ at block flash start ram kernel count end₀ i₀ to end i = (i ≤ count) × Appended to₀ at (processLines block (start / 4096) (ram / 4096) i) to end
+Inv-loop to₀ at block flash start ram kernel count end₀ i₀ to end i = (i ≤ count) × Appended to₀ at (processLines block (pagesIn (areaOf start ram)) i) to end
 
 abbrev μ-loop : tie.MeasureT-loop
 μ-loop to₀ at block flash start ram kernel count end₀ i₀ to end i = count - i
@@ -35,7 +36,7 @@ pages-of-requires c κs = search needs
 root-page-requires : tie.Need-root-page-requires Inv-loop μ-loop
 root-page-requires c κs =
     let counted = c .before .before .before .before in
-    (counted .before .before .before .pre .0, omega arith, omega (arith, c .before .loop-test .taken, counted .process-count .ensures))
+    (counted .before .before .before .before .pre .0, omega arith, omega (arith, c .before .loop-test .taken, counted .process-count .ensures))
 
 process-line-requires : tie.Need-process-line-requires Inv-loop μ-loop
 process-line-requires c κs = search needs
@@ -51,10 +52,10 @@ loop-again c =
     let root = c .before .before .before .before in
     let turn = root .before .before .before in
     let counted = turn .before .before in
-    let start = counted .before .before .before in
+    let start = counted .before .before .before .before in
     let more : turn .loop .i + 1 ≤ processCount (start .args .block .now) = omega (arith, root .before .before .loop-test .taken, counted .process-count .ensures) in
     let owned = pages-owned _ _ _ (start .pre .1) (omega arith) more (root .before .pages-of .ensures) in
-    (omega arith, lines-next _ _ _ _ (turn .loop .inv .1) owned (root .root-page .ensures) (c .before .before .process-line .ensures))
+    (omega arith, lines-next _ _ _ (turn .loop .inv .1) owned (root .root-page .ensures) (c .before .before .process-line .ensures))
 
 same-length : tie.Need-same-length Inv-loop μ-loop
 same-length c = appended-length (c .before .loop .inv .1)
@@ -62,7 +63,7 @@ same-length c = appended-length (c .before .loop .inv .1)
 returns : tie.Need-returns Inv-loop μ-loop
 returns c =
     let counted = c .before .before .before in
-    let all : c .before .loop .i ≡ processCount (counted .before .before .before .args .block .now) = omega (arith, counted .process-count .ensures) in
+    let all : c .before .loop .i ≡ processCount (counted .before .before .before .before .args .block .now) = omega (arith, counted .process-count .ensures) in
     rw all at (c .before .loop .inv .1)
 
 pub process-lines-spec : {M : Type 1} → statement M

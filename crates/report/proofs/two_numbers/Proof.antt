@@ -1,4 +1,4 @@
-use Rattle.text.proofs.Laws.{appended-then}
+use Rattle.text.proofs.Appended.{appended-then}
 use Rattle.report.specs.Lines.{twoNumbers}
 use borrow.Author.Needs.{needs}
 use Rattle.report.proofs.two_numbers.Statement.{statement}

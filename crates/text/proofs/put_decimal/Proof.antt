@@ -1,4 +1,4 @@
-use Rattle.text.proofs.Laws.{numeral-is}
+use Rattle.text.proofs.Appended.{numeral-is}
 use native.Mathlib.Omega.{arith}
 use borrow.Author.Needs.{needs}
 use Rattle.text.proofs.put_decimal.Statement.{statement}

@@ -17,7 +17,7 @@ same-length-2 c = search needs
 
 returns : tie.Need-returns
 returns c =
-    two-boards _ _ _ _ _ _ _ _ _ _ _ _ (search needs) (c .before .before .before .before .before .before .boot-one .ensures) (c .before .before .boot-one2 .ensures)
+    two-boards _ _ _ _ _ _ _ _ _ (search needs) (c .before .before .before .before .before .before .boot-one .ensures) (c .before .before .boot-one2 .ensures)
 
 pub boot-both-spec : {M : Type 1} → statement M
 boot-both-spec =

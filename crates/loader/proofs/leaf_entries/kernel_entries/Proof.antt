@@ -1,5 +1,7 @@
-use Rattle.places.proofs.Capped.{uncapped}
-use Rattle.ram_pages.proofs.PageAt.{page-inside}
+use mathlib.Core.Path.{_∙_}
+use Rattle.notation.specs.Choice.{choose}
+use Rattle.order_places.proofs.Capped.{uncapped}
+use Rattle.page_allocator.proofs.PageAt.{page-inside}
 use Rattle.loader.proofs.LeafEntries.{tracker-room, tracker-some, tracker-end, kernel-is}
 use native.Mathlib.Omega.{arith}
 use borrow.Author.Needs.{needs}
@@ -36,23 +38,31 @@ page-at-requires-3 c κs = search needs
 map-sections-requires : tie.Need-map-sections-requires
 map-sections-requires c κs = search needs
 
+kernel-rights-requires : tie.Need-kernel-rights-requires
+kernel-rights-requires c κs = search needs
+
 map-pages-requires : tie.Need-map-pages-requires
 map-pages-requires c κs = search needs
 
-sub-t15 : tie.Need-sub-t15
-sub-t15 c =
-    let sections = c .before .before .before .before .before .before in
-    let counts = sections .before .before .before .before .before in
+sub-t14 : tie.Need-sub-t14
+sub-t14 c =
+    let counts = c .before .before .before .before .before .before .before .before .before .before .before .before in
     let fits = counts .before .before .before .before .pre .0 in
     omega (arith, counts .tracker-pages .ensures .0, tracker-some fits)
 
-add-t16 : tie.Need-add-t16
-add-t16 c =
-    let counts = c .before .before .before .before .before .before .before .before .before .before .before in
+add-t15 : tie.Need-add-t15
+add-t15 c =
+    let counts = c .before .before .before .before .before .before .before .before .before .before .before .before in
     record { fits = tracker-end (counts .before .before .before .before .pre .0) _ (counts .tracker-pages .ensures .0) }
+
+kernel-rights-requires-2 : tie.Need-kernel-rights-requires-2
+kernel-rights-requires-2 c κs = search needs
 
 map-pages-requires-2 : tie.Need-map-pages-requires-2
 map-pages-requires-2 c κs = search needs
+
+kernel-rights-requires-3 : tie.Need-kernel-rights-requires-3
+kernel-rights-requires-3 c κs = search needs
 
 map-pages-requires-3 : tie.Need-map-pages-requires-3
 map-pages-requires-3 c κs = search needs
@@ -61,19 +71,23 @@ same-length : tie.Need-same-length
 same-length c = search needs
 
 returns : tie.Need-returns
+unfolding choose
 returns c =
     let list = c .before .before in
-    let tracker = list .before .before .before .before in
-    let copy = tracker .before .before .before .before in
-    let sections = copy .before .before .before .before in
+    let tracker = list .before .before .before .before .before in
+    let copy = tracker .before .before .before .before .before in
+    let sections = copy .before .before .before .before .before in
     let places = sections .before .before in
     let first = places .before .before in
     let counts = first .before in
     let fits = counts .before .before .before .before .pre .0 in
     kernel-is fits _ _ _ _ _ _ _ _ _
     (uncapped _ _ (counts .before .tracker-place .ensures) (omega (arith, tracker-room fits, fits .few-pages))) (counts .tracker-pages .ensures .0)
-    (page-inside _ _ _ _ (first .page-at .ensures) (fits .end)) (page-inside _ _ _ _ (places .before .page-at2 .ensures) (fits .end)) (page-inside _ _ _ _ (places .page-at3 .ensures) (fits .end))
-    (sections .map-sections .ensures) (copy .map-pages .ensures) (tracker .map-pages2 .ensures) (list .map-pages3 .ensures)
+    (page-inside _ _ _ (first .page-at .ensures) (fits .end)) (page-inside _ _ _ (places .before .page-at2 .ensures) (fits .end)) (page-inside _ _ _ (places .page-at3 .ensures) (fits .end))
+    (sections .map-sections .ensures)
+    (copy .map-pages .ensures ∙ rw (copy .before .kernel-rights .ensures))
+    (tracker .map-pages2 .ensures ∙ rw (tracker .before .kernel-rights2 .ensures))
+    (list .map-pages3 .ensures ∙ rw (list .before .kernel-rights3 .ensures))
 
 pub kernel-entries-spec : {M : Type 1} → statement M
 kernel-entries-spec =
@@ -89,10 +103,13 @@ kernel-entries-spec =
     add-page-at-3
     page-at-requires-3
     map-sections-requires
+    kernel-rights-requires
     map-pages-requires
-    sub-t15
-    add-t16
+    sub-t14
+    add-t15
+    kernel-rights-requires-2
     map-pages-requires-2
+    kernel-rights-requires-3
     map-pages-requires-3
     same-length
     returns)

@@ -1,8 +1,8 @@
 use mathlib.Core.Path.{_≡_, refl}
 use Prim.Native.Nat.{_-_, _≤_}
 use lib.ListN.{length}
-use Rattle.places.proofs.Capped.{uncapped}
-use Rattle.ram_pages.proofs.PageAt.{page-inside}
+use Rattle.order_places.proofs.Capped.{uncapped}
+use Rattle.page_allocator.proofs.PageAt.{page-inside}
 use Rattle.loader.proofs.LeafEntries.{process-room, Mapped, mapped-none, mapped-more, mapped-all}
 use native.Mathlib.Omega.{arith}
 use borrow.Author.Needs.{needs}
@@ -10,11 +10,11 @@ use Rattle.loader.proofs.leaf_entries.map_sections.Statement.{statement
 use Rattle.loader.proofs.leaf_entries.map_sections.Tie as tie
 
 abbrev Inv-loop : tie.InvT-loop
-Inv-loop entries₀ block base pages q m user first count place₀ j₀ entries place j =
-    (j ≤ count) × (length entries ≡ length entries₀) × Mapped block base pages q m user j place entries
+Inv-loop entries₀ block range q m first count place₀ j₀ entries place j =
+    (j ≤ count) × (length entries ≡ length entries₀) × Mapped block range q m j place entries
 
 abbrev μ-loop : tie.MeasureT-loop
-μ-loop entries₀ block base pages q m user first count place₀ j₀ entries place j = count - j
+μ-loop entries₀ block range q m first count place₀ j₀ entries place j = count - j
 
 read-process-requires : tie.Need-read-process-requires Inv-loop μ-loop
 read-process-requires c κs = search needs
@@ -26,7 +26,7 @@ loop-holds : tie.Need-loop-holds Inv-loop μ-loop
 loop-holds c =
     let pre = c .before .before .before .before .pre in
     let place = uncapped _ _ (c .section-place .ensures) (omega (arith, process-room (pre .0) _ (pre .1) (pre .2), pre .0 .few-pages)) in
-    (search needs, refl, mapped-none (pre .0) _ _ _ (pre .1) (pre .2) place (pre .3))
+    (search needs, refl, mapped-none (pre .0) _ _ (pre .1) (pre .2) place (pre .3))
 
 cast-read-section : tie.Need-cast-read-section Inv-loop μ-loop
 cast-read-section c = search needs
@@ -43,21 +43,24 @@ read-section-requires c κs = search needs
 page-at-requires : tie.Need-page-at-requires Inv-loop μ-loop
 page-at-requires c κs = search needs
 
+section-rights-requires : tie.Need-section-rights-requires Inv-loop μ-loop
+section-rights-requires c κs = search needs
+
 map-pages-requires : tie.Need-map-pages-requires Inv-loop μ-loop
 map-pages-requires c κs = search needs
 
 add-place : tie.Need-add-place Inv-loop μ-loop
 add-place c =
-    let read = c .before .before .before .before .before .before in
+    let read = c .before .before .before .before .before .before .before in
     let loop = read .before .before in
     let fits = loop .before .before .before .before .before .pre .0 in
-    omega (arith, read .read-section .ensures .page-count-le, loop .loop .inv .2 .room, fits .few-pages)
+    omega (arith, read .read-section .ensures .pages-few, loop .loop .inv .2 .room, fits .few-pages)
 
 add-j : tie.Need-add-j Inv-loop μ-loop
 add-j c =
-    let loop = c .before .before .before .before .before .before .before .before in
+    let loop = c .before .before .before .before .before .before .before .before .before in
     let ok = loop .before .before .read-process .ok in
-    omega arith
+    omega (arith, c .before .before .before .before .before .before .before .before .loop-test .taken)
 
 loop-less : tie.Need-loop-less Inv-loop μ-loop
 loop-less c = search needs
@@ -65,14 +68,14 @@ loop-less c = search needs
 loop-again : tie.Need-loop-again Inv-loop μ-loop
 loop-again c =
     let call = c .before .before .before in
-    let read = call .before .before .before in
+    let read = call .before .before .before .before in
     let loop = read .before .before in
     let process = loop .before .before .read-process .ensures in
     let pre = loop .before .before .before .before .before .pre in (
       omega arith,
       omega arith,
       mapped-more (loop .loop .inv .2) (pre .0) (pre .1) (pre .2) (process .first-section) (process .sections-of) (read .before .loop-test .taken)
-          (read .read-section .ensures) (page-inside _ _ _ _ (call .before .page-at .ensures) (pre .0 .end)) (call .map-pages .ensures),
+          (read .read-section .ensures) (call .before .section-rights .ensures) (page-inside _ _ _ (call .before .before .page-at .ensures) (pre .0 .end)) (call .map-pages .ensures),
     )
 
 same-length : tie.Need-same-length Inv-loop μ-loop
@@ -95,6 +98,7 @@ map-sections-spec =
     add-read-section
     read-section-requires
     page-at-requires
+    section-rights-requires
     map-pages-requires
     add-place
     add-j

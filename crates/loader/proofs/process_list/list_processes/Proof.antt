@@ -2,9 +2,9 @@ use mathlib.Core.Path.{_≡_, refl}
 use Prim.Native.Nat.{_+_, _-_, _*_, _≤_}
 use Rattle.rules.specs.Order.{trackerPages}
 use Rattle.rules.specs.Load.{satpWord}
-use Rattle.placement.specs.Places.{rootPlace}
+use Rattle.order_laws.specs.Places.{rootPlace}
 use Rattle.stores.proofs.Written.{Written, written-none}
-use Rattle.ram_pages.proofs.PageAt.{page-inside}
+use Rattle.page_allocator.proofs.PageAt.{page-inside}
 use Rattle.loader.proofs.ProcessWords.{listByte, root-next, tables-fit, root-fits, satp-is, process-turn, list-end}
 use native.Mathlib.Omega.{arith}
 use borrow.Author.Needs.{needs}
@@ -12,10 +12,10 @@ use Rattle.loader.proofs.process_list.list_processes.Statement.{stateme
 use Rattle.loader.proofs.process_list.list_processes.Tie as tie
 
 abbrev Inv-loop : tie.InvT-loop
-Inv-loop page₀ block base pages first count place₀ i₀ page place i = (i ≤ count) × (place ≡ rootPlace block (trackerPages block pages) (i + 1)) × Written (listByte block (satpWord block base pages)) 0 (12 * i) page₀ page
+Inv-loop page₀ block range first count place₀ i₀ page place i = (i ≤ count) × (place ≡ rootPlace block (trackerPages block (range .pages)) (i + 1)) × Written (listByte block (satpWord block range)) 0 (12 * i) page₀ page
 
 abbrev μ-loop : tie.MeasureT-loop
-μ-loop page₀ block base pages first count place₀ i₀ page place i = count - i
+μ-loop page₀ block range first count place₀ i₀ page place i = count - i
 
 clear-requires : tie.Need-clear-requires Inv-loop μ-loop
 clear-requires c κs = search needs
@@ -36,7 +36,7 @@ put-process-requires : tie.Need-put-process-requires Inv-loop μ-loop
 put-process-requires c κs =
     let loop = c .before .before .before in
     let fits = loop .before .before .before .before .before .before .before .before .pre .0 in
-    let root = page-inside _ _ _ _ (c .before .page-at .ensures) (fits .end) in
+    let root = page-inside _ _ _ (c .before .page-at .ensures) (fits .end) in
     omega (arith, root, root-fits fits _ (omega (arith, loop .before .process-count .ensures)) (loop .loop .inv .1), fits .end, fits .few-processes)
 
 add-table-count : tie.Need-add-table-count Inv-loop μ-loop
@@ -68,7 +68,7 @@ loop-again c =
       root-next fits _ (loop .loop .inv .1) (c .table-count .ensures),
       process-turn _ _ _ (loop .loop .inv .2)
           (omega (arith, count, fits .few-processes, start .pre .2))
-          (satp-is fits _ (omega (arith, count)) (loop .loop .inv .1) (page-inside _ _ _ _ (put .before .before .page-at .ensures) (fits .end))) (put .put-process .ensures),
+          (satp-is fits _ (omega (arith, count)) (loop .loop .inv .1) (page-inside _ _ _ (put .before .before .page-at .ensures) (fits .end))) (put .put-process .ensures),
     )
 
 same-length : tie.Need-same-length Inv-loop μ-loop

@@ -35,17 +35,17 @@ add-list-processes c = search needs
 
 list-processes-requires : tie.Need-list-processes-requires
 list-processes-requires c κs =
-    let pre = c .before .before .before .before .before .before .pre in
-    (pre .0, first-root (pre .0) (pre .1), page-long _ _ (list-fits (pre .0) (pre .1) (c .before .before .before .allocate .ensures .0) (pre .2)))
+    let pre = c .before .before .before .before .before .before .before .pre in
+    (pre .0, first-root (pre .0) (pre .1), page-long _ _ (list-fits (pre .0) (pre .1) (c .before .before .before .before .allocate .ensures .0) (pre .2)))
 
 same-length : tie.Need-same-length
 same-length c = search needs
 
 returns : tie.Need-returns
 returns c =
-    let pre = c .before .before .before .before .before .before .before .before .before .before .pre in
-    let page = c .before .before .before .before .before .before .before .allocate .ensures in
-    (page .1, λ flash. list-page _ flash _ _ _ _ _ _ (list-fits (pre .0) (pre .1) (page .0) (pre .2)) (page .0) (c .before .before .before .list-processes .ensures))
+    let pre = c .before .before .before .before .before .before .before .before .before .before .before .pre in
+    let page = c .before .before .before .before .before .before .before .before .allocate .ensures in
+    (page .1, list-page _ _ _ _ _ _ (list-fits (pre .0) (pre .1) (page .0) (pre .2)) (page .0) (c .before .before .before .list-processes .ensures))
 
 pub load-process-list-spec : {M : Type 1} → statement M
 load-process-list-spec =

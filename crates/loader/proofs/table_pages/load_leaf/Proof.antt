@@ -21,7 +21,7 @@ same-length : tie.Need-same-length
 same-length c = search needs
 
 returns : tie.Need-returns
-returns c = λ flash. leaf-page _ flash _ _ _ _ _ _ _ (c .before .before .before .before .before .before .leaf-entries .ensures) (c .before .before .store .ensures)
+returns c = leaf-page _ _ _ _ _ _ _ (c .before .before .before .before .before .before .leaf-entries .ensures) (c .before .before .store .ensures)
 
 pub load-leaf-spec : {M : Type 1} → statement M
 load-leaf-spec =

@@ -4,20 +4,20 @@ use Prim.Native.Nat.{ℕ, _-_, _≤_}
 use lib.ListN.{getD}
 use Rattle.notation.specs.Lists.{gather}
 use Rattle.loader.specs.TablePages.{leafUses}
-use Rattle.loader.proofs.TablePages.{Tables, tables-none, tables-next, tables-end}
+use Rattle.writing.specs.Loaded.{WroteAny, any-gather-none, any-gather-next}
 use native.Mathlib.Omega.{arith}
 use borrow.Author.Needs.{needs}
 use Rattle.loader.proofs.table_pages.load_leaves.Statement.{statement}
 use Rattle.loader.proofs.table_pages.load_leaves.Tie as tie
 
 abbrev Inv-loop : tie.InvT-loop
-Inv-loop ram₀ block base pages q marks next₀ m₀ ram next m = (m ≤ 1024) × Tables block base pages (gather m (leafUses block q)) ram₀ (next₀ .left) ram (next .left)
+Inv-loop ram₀ block range q marks next₀ m₀ ram next m = (m ≤ 1024) × WroteAny block range (gather m (leafUses block q)) ram₀ (next₀ .left) ram (next .left)
 
 abbrev μ-loop : tie.MeasureT-loop
-μ-loop ram₀ block base pages q marks next₀ m₀ ram next m = 1024 - m
+μ-loop ram₀ block range q marks next₀ m₀ ram next m = 1024 - m
 
 loop-holds : tie.Need-loop-holds Inv-loop μ-loop
-loop-holds c = (search needs, tables-none _ _ _ _ _ _)
+loop-holds c = (search needs, any-gather-none _ _ _)
 
 cast-byte : tie.Need-cast-byte Inv-loop μ-loop
 cast-byte c = search needs
@@ -39,7 +39,7 @@ loop-less c = search needs
 loop-again : tie.Need-loop-again Inv-loop μ-loop
 loop-again c =
     let call = c .before .before in
-    (omega arith, tables-next _ _ _ _ _ (call .before .before .before .before .loop .inv .1) (call .load-marked .ensures))
+    (omega arith, any-gather-next _ _ (call .before .before .before .before .loop .inv .1) (call .load-marked .ensures))
 
 same-length : tie.Need-same-length Inv-loop μ-loop
 same-length c = search needs
@@ -47,7 +47,7 @@ same-length c = search needs
 returns : tie.Need-returns Inv-loop μ-loop
 returns c =
     let e : c .before .loop .m ≡ 1024 = omega arith in
-    rw e at (tables-end _ _ _ _ (c .before .loop .inv .1))
+    rw e at (c .before .loop .inv .1)
 
 pub load-leaves-spec : {M : Type 1} → statement M
 load-leaves-spec =

@@ -27,7 +27,7 @@ load-root-requires c κs =
     let leaf = c .before .before .before in
     let marked = leaf .before .before .before in
     let pre = marked .before .before .before .before .pre in (
-      leaves-at _ _ _ _ _ _ (pre .0) (pre .1) (pre .2) (pre .3) (pre .4) (leaf .before .allocate .ensures .1) (leaf .allocate2 .ensures .0) (c .before .before .physical .ensures),
+      leaves-at _ _ _ _ _ (pre .0) (pre .1) (pre .2) (pre .3) (pre .4) (leaf .before .allocate .ensures .1) (leaf .allocate2 .ensures .0) (c .before .before .physical .ensures),
       marked .leaf-marks .ensures,
     )
 
@@ -47,7 +47,7 @@ returns : tie.Need-returns
 returns c =
     let root = c .before .before .before .before .before .before .before in
     let got = root .before .before .before .before .before .allocate .ensures in
-    process-tables _ _ _ _ _ _ _ _ (got .0) (got .1) (root .load-root .ensures) (c .before .before .load-leaves .ensures)
+    process-tables _ _ _ _ _ _ _ (got .0) (got .1) (root .load-root .ensures) (c .before .before .load-leaves .ensures)
 
 pub load-process-tables-spec : {M : Type 1} → statement M
 load-process-tables-spec =

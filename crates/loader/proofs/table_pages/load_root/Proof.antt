@@ -29,7 +29,7 @@ returns c =
     let mapped = c .before .before .before .before .before .before in
     let pointed = mapped .before .before .before in
     let pre = pointed .before .before .before .before .before .pre in
-    root-page _ _ _ _ _ _ _ _ _ _ _ _ (pre .0) (pre .1) blank (pointed .point-to-leaves .ensures) (mapped .point-to-kernel .ensures)
+    root-page _ _ _ _ _ _ _ _ _ _ _ (pre .0) (pre .1) blank (pointed .point-to-leaves .ensures) (mapped .point-to-kernel .ensures)
     (c .before .before .store .ensures)
 
 pub load-root-spec : {M : Type 1} → statement M

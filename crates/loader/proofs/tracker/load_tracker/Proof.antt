@@ -1,19 +1,19 @@
-use mathlib.Core.List.{[]}
 use Prim.Native.Nat.{_-_, _≤_}
-use Rattle.writing.specs.Uses.{Wrote}
-use Rattle.writing.specs.Loaded.{content}
-use Rattle.sections.proofs.Laws.{tab-none}
-use Rattle.loader.proofs.TrackerBytes.{trackerUses, tracker-fits, page-turn, tracker-end}
+use Rattle.notation.specs.Lists.{tab}
+use Rattle.rules.specs.Space.{trackerPage}
+use Rattle.rules.specs.Order.{holds}
+use Rattle.writing.specs.Loaded.{WroteAny, any-tab-none}
+use Rattle.loader.proofs.TrackerBytes.{tracker-fits, page-turn, tracker-end}
 use native.Mathlib.Omega.{arith}
 use borrow.Author.Needs.{needs}
 use Rattle.loader.proofs.tracker.load_tracker.Statement.{statement}
 use Rattle.loader.proofs.tracker.load_tracker.Tie as tie
 
 abbrev Inv-loop : tie.InvT-loop
-Inv-loop ram₀ block pages needed count next₀ i₀ ram next i = (i ≤ count) × Wrote (content block [] 0 pages) (trackerUses i) ram₀ (next₀ .left) ram (next .left)
+Inv-loop ram₀ block range needed count next₀ i₀ ram next i = (i ≤ count) × WroteAny block range (tab i (λ i. holds (trackerPage i))) ram₀ (next₀ .left) ram (next .left)
 
 abbrev μ-loop : tie.MeasureT-loop
-μ-loop ram₀ block pages needed count next₀ i₀ ram next i = count - i
+μ-loop ram₀ block range needed count next₀ i₀ ram next i = count - i
 
 tracker-pages-requires : tie.Need-tracker-pages-requires Inv-loop μ-loop
 tracker-pages-requires c κs = search needs
@@ -21,10 +21,10 @@ tracker-pages-requires c κs = search needs
 cast-count : tie.Need-cast-count Inv-loop μ-loop
 cast-count c =
     let pre = c .before .before .before .pre in
-    omega (arith, tracker-fits pre, pre .few-pages, c .tracker-pages .ensures .0)
+    omega (arith, tracker-fits (pre .0), pre .0 .few-pages, c .tracker-pages .ensures .0)
 
 loop-holds : tie.Need-loop-holds Inv-loop μ-loop
-loop-holds c = (search needs, tab-none _ _ _ _)
+loop-holds c = (search needs, any-tab-none _ _ _)
 
 allocate-requires : tie.Need-allocate-requires Inv-loop μ-loop
 allocate-requires c κs = search needs
@@ -36,7 +36,7 @@ add-i : tie.Need-add-i Inv-loop μ-loop
 add-i c =
     let counted = c .before .before .before .before .before .before .before .before in
     let pre = counted .before .before .before .pre in
-    omega (arith, tracker-fits pre, pre .few-pages, counted .tracker-pages .ensures .0)
+    omega (arith, tracker-fits (pre .0), pre .0 .few-pages, counted .tracker-pages .ensures .0)
 
 loop-less : tie.Need-loop-less Inv-loop μ-loop
 loop-less c = search needs

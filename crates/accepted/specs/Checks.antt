@@ -1,0 +1,171 @@
+-- The first refusal of a list of checks, and what is known of the others.
+use mathlib.Core.Path.{_≡_, refl}
+use mathlib.Core.Logic.{_≢_, _⊎_, inl, inr, _↔_}
+use mathlib.Core.List.{List, [], _∷_}
+use mathlib.Core.Option.{some}
+use mathlib.Core.Bool.{Bool, true, false}
+use Prim.Native.Nat.{ℕ, zero, suc, _+_, _≤_, _<_}
+use native.Mathlib.Nat.{not-suc-le-zero, le-of-suc-le-suc}
+use native.Mathlib.Decide.{ℕ-discrete}
+use native.Mathlib.Omega.{arith}
+use lib.Dec.{eqb}
+use borrow.Author.Tests.{eqb-true, eqb-false}
+use Rattle.notation.specs.Choice.{choose}
+use Rattle.notation.specs.Lists.{lookup}
+use Rattle.types.specs.declared.Area.{Area}
+use Rattle.types.specs.declared.Verdict.{Verdict}
+use Rattle.rules.specs.Lent.{Image}
+use Rattle.rules.specs.Refusals.{Check, whole, records, refused, accepted, firstRecord, firstRefusal, sectionRefusal, lentChecks, headerChecks, recordChecks, checks, verdict}
+use Rattle.laws.specs.Choice.{by-choose}
+use Rattle.laws.specs.Lists.{Every, _and_, every-at}
+
+-- nothing is wrong at a check
+abbrev pub Passes : Check → Type 0
+Passes (whole n c) = c ≡ false
+Passes (records n f) = (i : ℕ) → i < n → f i ≡ 0
+
+-- a check gives refusal n at this place: its cause holds, and at no record before
+abbrev pub Refuses : Check → ℕ → ℕ → Type 0
+Refuses (whole m c) n place = (c ≡ true) × (n ≡ m) × (place ≡ 0)
+Refuses (records m f) n place = (place < m) × (f place ≡ n) × ((i : ℕ) → i < place → f i ≡ 0)
+
+-- refusal n at this place comes from the first check that does not pass
+pub record FirstCause (cs : List Check) (n place : ℕ) : Type 0 where
+  pub step : ℕ
+  pub check : Check
+  pub there : lookup cs step ≡ some check
+  pub earlier : (k : ℕ) → k < step → (c : Check) → lookup cs k ≡ some c → Passes c
+  pub cause : Refuses check n place
+
+-- the numbers of a check are 1 to 12
+abbrev pub Numbered : Check → Type 0
+Numbered (whole n c) = (1 ≤ n) × (n ≤ 12)
+Numbered (records n f) = (i : ℕ) → f i ≤ 12
+
+-- the verdict on a list of checks: all pass, or one is the first that does not
+abbrev pub Decided : List Check → Verdict → Type 0
+Decided cs v = (Every Passes cs × (v ≡ accepted)) ⊎ ((1 ≤ v .number) × (v .number ≤ 12) × FirstCause cs (v .number) (v .place))
+
+-- the first record with a refusal, or none has one
+abbrev Scanned : (ℕ → ℕ) → ℕ → ℕ → Verdict → Verdict → Type 0
+Scanned f k n rest v =
+    (((i : ℕ) → k ≤ i → i < k + n → f i ≡ 0) × (v ≡ rest))
+    ⊎ ((at : ℕ) × (k ≤ at) × (at < k + n) × (f at ≢ 0) × ((i : ℕ) → k ≤ i → i < at → f i ≡ 0) × (v ≡ refused (f at) at))
+
+scanned : (f : ℕ → ℕ) (k n : ℕ) (rest : Verdict) → Scanned f k n rest (firstRecord f k n rest)
+unfolding firstRecord
+scanned f k zero rest = inl ((λ i l h. absurd (omega arith)), refl)
+scanned f k (suc n) rest =
+    by-choose (Scanned f k (suc n) rest) (eqb (f k) 0) _ _
+    (λ e. later (eqb-true (f k) 0 e) (scanned f (suc k) n rest))
+    (λ e. inr (k, omega arith, omega arith, eqb-false (f k) 0 e, (λ i l h. absurd (omega arith)), refl))
+  where
+    later : f k ≡ 0 → {v : Verdict} → Scanned f (suc k) n rest v → Scanned f k (suc n) rest v
+    later z (inl s) = inl ((λ i l h. elim (ℕ-discrete i k) [ yes e ↦ rw e z | no e ↦ s .0 i (omega arith) (omega arith) ]), s .1)
+    later z (inr s) = inr (
+      s .0,
+      omega arith,
+      omega arith,
+      s .3,
+      (λ i l h. elim (ℕ-discrete i k) [ yes e ↦ rw e z | no e ↦ s .4 i (omega arith) h ]),
+      s .5,
+    )
+
+-- a check that passes, before the others
+pass : {c : Check} {cs : List Check} {v : Verdict} → Passes c → Decided cs v → Decided (c ∷ cs) v
+unfolding lookup
+pass p (inl d) = inl ((p, d .0), d .1)
+pass {c} {cs} p (inr d) =
+    inr (
+      d .0,
+      d .1,
+      record {
+        step = suc (d .2 .step);
+        check = d .2 .check;
+        there = d .2 .there;
+        earlier = λ k. elim k [
+          | zero ↦ λ h c′ e. same-check c c′ e p
+          | suc k ↦ λ h c′ e. d .2 .earlier k (le-of-suc-le-suc h) c′ e
+        ];
+        cause = d .2 .cause;
+      },
+    )
+  where
+    same-check : (c c′ : Check) → some c ≡ some c′ → Passes c → Passes c′
+    same-check c c′ e p = let q : c ≡ c′ = cc in rw q at p
+
+decided : (cs : List Check) → Every Numbered cs → Decided cs (firstRefusal cs)
+unfolding firstRefusal lookup refused
+decided [] ns = inl (tt, refl)
+decided (whole n c ∷ cs) ns =
+    by-choose (Decided (whole n c ∷ cs)) c _ _
+    (λ e. inr (
+      ns .0 .0,
+      ns .0 .1,
+      record {
+        step = 0;
+        check = whole n c;
+        there = refl;
+        earlier = λ k h. absurd (not-suc-le-zero h);
+        cause = (e, refl, refl);
+      },
+    ))
+    (λ e. pass e (decided cs (ns .1)))
+decided (records n f ∷ cs) ns = go (firstRecord f 0 n (firstRefusal cs)) (scanned f 0 n (firstRefusal cs)) (decided cs (ns .1))
+  where
+    go : (v : Verdict) → Scanned f 0 n (firstRefusal cs) v → Decided cs (firstRefusal cs) → Decided (records n f ∷ cs) v
+    go v (inl s) d = rw (s .1) (pass (λ i h. s .0 i (omega arith) (omega arith)) d)
+    go v (inr s) d = rw (s .5) (inr (
+      omega (arith, s .3),
+      ns .0 (s .0),
+      record {
+        step = 0;
+        check = records n f;
+        there = refl;
+        earlier = λ k h. absurd (not-suc-le-zero h);
+        cause = (omega (arith, s .2), refl, λ i h. s .4 i (omega arith) h);
+      },
+    ))
+
+one-number : (c : Bool) (n : ℕ) → n ≤ 12 → choose c n 0 ≤ 12
+one-number c n h = by-choose (λ m. m ≤ 12) c n 0 (λ _. h) (λ _. omega arith)
+
+section-number : (b : List ℕ) (flash n : ℕ) → sectionRefusal b flash n ≤ 12
+unfolding sectionRefusal
+section-number b flash n =
+    by-choose (λ m. m ≤ 12) _ 7 _ (λ _. omega arith) (λ _. by-choose (λ m. m ≤ 12) _ 8 _ (λ _. omega arith) (λ _. one-number _ 9 (omega arith)))
+
+numbered : (x : Image) (ram : Area) → Every Numbered (checks x ram)
+unfolding checks lentChecks headerChecks recordChecks
+numbered x ram =
+    (omega arith) and (omega arith) and (omega arith) and (omega arith) and (omega arith) and (λ i. one-number _ 6 (omega arith)) and section-number (x .block) _
+    and (λ i. one-number _ 10 (omega arith)) and (λ i. one-number _ 11 (omega arith)) and (omega arith) and tt
+
+-- a check does not pass and refuse at once
+pub not-both : (c : Check) (n place : ℕ) → 1 ≤ n → Passes c → Refuses c n place → ⊥
+not-both (whole m c) n place h p r = let z : _≡_ {A = ℕ} 0 1 = cc in omega arith
+not-both (records m f) n place h p r = omega (arith, p place (r .0), r .1)
+
+all-pass : (cs : List Check) (v : Verdict) → Decided cs v → (v .number ≡ 0) ↔ Every Passes cs
+unfolding accepted refused
+all-pass cs v (inl d) = ((λ _. d .0), (λ _. rw (d .1)))
+all-pass cs v (inr d) = (
+  (λ e. absurd (omega (arith, d .0))),
+  (λ ps. absurd (not-both (d .2 .check) (v .number) (v .place) (d .0) (every-at Passes cs (d .2 .step) ps (d .2 .there)) (d .2 .cause))),
+)
+
+first-cause : (cs : List Check) (v : Verdict) → Decided cs v → v .number ≢ 0
+    → (1 ≤ v .number) × (v .number ≤ 12) × FirstCause cs (v .number) (v .place)
+unfolding accepted refused
+first-cause cs v (inl d) h = absurd (h (rw (d .1)))
+first-cause cs v (inr d) h = d
+
+-- THE VERDICT: number 0 exactly where every check passes; else the first cause
+pub verdict-passes : (x : Image) (ram : Area) → (verdict x ram .number ≡ 0) ↔ Every Passes (checks x ram)
+unfolding verdict
+verdict-passes x ram = all-pass _ _ (decided (checks x ram) (numbered x ram))
+
+pub verdict-refuses : (x : Image) (ram : Area) → verdict x ram .number ≢ 0
+    → (1 ≤ verdict x ram .number) × (verdict x ram .number ≤ 12) × FirstCause (checks x ram) (verdict x ram .number) (verdict x ram .place)
+unfolding verdict
+verdict-refuses x ram = first-cause _ _ (decided (checks x ram) (numbered x ram))

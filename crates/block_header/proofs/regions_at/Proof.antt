@@ -1,0 +1,40 @@
+use native.Mathlib.Omega.{arith}
+use native.Mathlib.Omega.{arith}
+use borrow.Author.Needs.{needs}
+use Rattle.rules.specs.Block.{regionsAt}
+use Rattle.block_header.proofs.regions_at.Statement.{statement}
+use Rattle.block_header.proofs.regions_at.Tie as tie
+use Rattle.block_header.proofs.regions_at.Reads as reads
+use Rattle.block_header.proofs.regions_at.Lts as lts
+use Rattle.block_header.proofs.section_count.Reads as section-count-reads
+use Rattle.block_header.proofs.sections_at.Reads as sections-at-reads
+
+sections-at-requires : tie.Need-sections-at-requires
+sections-at-requires c κs = search needs
+
+section-count-requires : tie.Need-section-count-requires
+section-count-requires c κs = search needs
+
+cast-result : tie.Need-cast-result
+cast-result c = search needs
+
+mul-result : tie.Need-mul-result
+mul-result c = search needs
+
+add-result : tie.Need-add-result
+add-result c = search needs
+
+returns : tie.Need-returns
+unfolding regionsAt
+returns c = (omega arith, omega arith)
+
+pub regions-at-spec : {M : Type 1} → statement M
+regions-at-spec =
+    tie.close
+    (tie.spec
+    sections-at-requires
+    section-count-requires
+    cast-result
+    mul-result
+    add-result
+    returns)

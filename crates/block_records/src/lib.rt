@@ -1,0 +1,112 @@
+// The boot block's records, read from any bytes: what lies past their end counts as 0.
+ghost use mathlib.Core.Path.{_≡_};
+ghost use Prim.Native.Nat.{ℕ, _+_, _≤_, _<_};
+ghost use Rattle.notation.specs.Words.{word};
+ghost use Rattle.rules.specs.Block.{stackPages, sectionAt};
+ghost use Rattle.block_records.specs.Read.{IsProcess, IsSection, IsRegion};
+use types::VirtPage;
+
+// A process record.
+pub struct Process {
+    pub entry_point: u32,
+    pub first_section: u32,
+    pub sections: u32,
+    pub kind: u32,
+}
+
+// A section record, its flags by name, its virtual pages, and how many pages it takes in RAM.
+pub struct Section {
+    pub address: u32,
+    pub size: u32,
+    pub flash_offset: u32,
+    pub flags: u32,
+    pub no_copy: bool,
+    pub writable: bool,
+    pub executable: bool,
+    pub first_page: VirtPage,
+    pub last_page: VirtPage,
+    pub pages: u32,
+}
+
+// A region record, and the address after its last byte.
+pub struct Region {
+    pub start: u32,
+    pub pages: u32,
+    pub end: u64,
+}
+
+// Process record i, which is that of process i + 1.
+pub fn read_process_record(block: &[u8], i: u32) -> Process
+    ensures { λ r. ⌜ IsProcess (now (block .entry)) (i + 1) r ⌝ }
+{
+    let at = 32 + 16 * (i as usize);
+    Process {
+        entry_point: slices::word(block, at),
+        first_section: slices::word(block, at + 4),
+        sections: slices::word(block, at + 8),
+        kind: slices::word(block, at + 12),
+    }
+}
+
+// The record of process q, which is record q - 1. There is no process 0: its record would be that of process 1.
+pub fn read_process(block: &[u8], q: u32) -> Process
+    ensures { λ r. ⌜ IsProcess (now (block .entry)) q r ⌝ }
+{
+    read_process_record(block, numbers::minus(q as usize, 1) as u32)
+}
+
+// The pages of process q's stack reservation; the kernel has none.
+pub fn stack_pages(block: &[u8], q: u32) -> u32
+    ensures { λ r. ⌜ (r ≡ stackPages (now (block .entry)) q) × (r ≤ 255) ⌝ }
+{
+    if q == 1 { 0 } else { 4 }
+}
+
+// Where the words of section record n are read. Past the end all words are 0, and 16 n might wrap.
+fn section_offset(block: &[u8], n: usize) -> usize
+    ensures { λ r. ⌜ (r < 0xFFFF_FFFF_FFFF_FF00) × ((k : ℕ) → word (now (block .entry)) (r + k) ≡ word (now (block .entry)) (sectionAt (now (block .entry)) n + k)) ⌝ }
+{
+    if block.len() / 16 < n {
+        return block.len();
+    }
+    block_header::sections_at(block) + 16 * n
+}
+
+// Section record n. (Its pages are counted from its address: a size / 4,096 rounded up would miss one.)
+pub fn read_section(block: &[u8], n: usize) -> Section
+    ensures { λ r. ⌜ IsSection (now (block .entry)) n r ⌝ }
+{
+    let at = section_offset(block, n);
+    let address = slices::word(block, at);
+    let size = slices::word(block, at + 4);
+    let flags = slices::word(block, at + 12);
+    let first = address / 4096;
+    let last = (numbers::minus(address as usize + size as usize, 1) / 4096) as u32;
+    let pages = last + 1 - first;
+    Section {
+        address,
+        size,
+        flash_offset: slices::word(block, at + 8),
+        flags,
+        no_copy: numbers::bit(flags, 1),
+        writable: numbers::bit(flags, 2),
+        executable: numbers::bit(flags, 4),
+        first_page: VirtPage(first),
+        last_page: VirtPage(last),
+        pages,
+    }
+}
+
+// Region record i.
+pub fn read_region(block: &[u8], i: u32) -> Region
+    ensures { λ r. ⌜ IsRegion (now (block .entry)) i r ⌝ }
+{
+    let at = block_header::regions_at(block) + 8 * (i as usize);
+    let start = slices::word(block, at);
+    let pages = slices::word(block, at + 4);
+    Region {
+        start,
+        pages,
+        end: start as u64 + 4096 * (pages as u64),
+    }
+}

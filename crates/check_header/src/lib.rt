@@ -1,0 +1,96 @@
+// Refusals 1 to 5: RAM's place and size, a short block, the format, the counts, and the layout. Each function answers for any input.
+ghost use mathlib.Core.List.{[], _∷_};
+ghost use mathlib.Core.Path.{_≡_};
+ghost use Rattle.notation.specs.Choice.{any};
+ghost use Rattle.rules.specs.Lent.{areaOf};
+ghost use Rattle.rules.specs.Refusals.{ramUnfit, blockTooShort, formatUnknown, outside, countsOutOfBounds, layoutNotTight};
+
+// Refusal 1, for RAM of `length` bytes from `start` on.
+pub fn ram_unfit(start: u32, length: usize) -> bool
+    ensures { λ r. ⌜ r ≡ ramUnfit (areaOf start length) ⌝ }
+{
+    if length % 4096 != 0 {
+        return true;
+    }
+    if 4096 < length / 4096 {
+        return true;
+    }
+    if start % 4096 != 0 {
+        return true;
+    }
+    0x1_0000_0000 < start as u64 + length as u64
+}
+
+// Refusal 2.
+pub fn block_too_short(block: &[u8]) -> bool
+    ensures { λ r. ⌜ r ≡ blockTooShort (now (block .entry)) ⌝ }
+{
+    block.len() < 32
+}
+
+// Refusal 3.
+pub fn format_unknown(block: &[u8]) -> bool
+    ensures { λ r. ⌜ r ≡ formatUnknown (now (block .entry)) ⌝ }
+{
+    slices::word(block, 0) != 1
+}
+
+// n is outside the bounds lo to hi.
+fn is_outside(lo: u32, hi: u32, n: u32) -> bool
+    ensures { λ r. ⌜ r ≡ outside lo hi n ⌝ }
+{
+    if n < lo {
+        return true;
+    }
+    hi < n
+}
+
+// p, s or r is outside its bounds.
+fn are_outside(p: u32, s: u32, r: u32) -> bool
+    ensures { λ x. ⌜ x ≡ any (outside 1 16 p ∷ outside 1 64 s ∷ outside 0 32 r ∷ []) ⌝ }
+{
+    if is_outside(1, 16, p) {
+        return true;
+    }
+    if is_outside(1, 64, s) {
+        return true;
+    }
+    is_outside(0, 32, r)
+}
+
+// Refusal 4.
+pub fn counts_out_of_bounds(block: &[u8]) -> bool
+    ensures { λ r. ⌜ r ≡ countsOutOfBounds (now (block .entry)) ⌝ }
+{
+    are_outside(
+        block_header::process_count(block),
+        block_header::section_count(block),
+        block_header::region_count(block),
+    )
+}
+
+// Refusal 5.
+pub fn layout_not_tight(block: &[u8]) -> bool
+    ensures { λ r. ⌜ r ≡ layoutNotTight (now (block .entry)) ⌝ }
+{
+    let sections_at = block_header::sections_at(block);
+    let regions_at = block_header::regions_at(block);
+    let length = block_header::tight_length(block);
+    let process_offset = slices::word(block, 12);
+    let section_offset = slices::word(block, 20) as usize;
+    let region_offset = slices::word(block, 28) as usize;
+    let length_field = slices::word(block, 4) as usize;
+    if process_offset != 32 {
+        return true;
+    }
+    if section_offset != sections_at {
+        return true;
+    }
+    if region_offset != regions_at {
+        return true;
+    }
+    if length_field != length {
+        return true;
+    }
+    block.len() != length
+}

@@ -1,0 +1,27 @@
+use mathlib.Core.Path.{sym, _∙_}
+use borrow.Author.Needs.{needs}
+use Rattle.notation.specs.Choice.{choose}
+use Rattle.rules.specs.Refusals.{accepted, firstRefusal, lentChecks}
+use Rattle.checks.proofs.lent_refusal.Statement.{statement}
+use Rattle.checks.proofs.lent_refusal.Tie as tie
+
+ram-unfit-requires : tie.Need-ram-unfit-requires
+ram-unfit-requires c κs = search needs
+
+refused-requires : tie.Need-refused-requires
+refused-requires c κs = search needs
+
+returns : tie.Need-returns
+unfolding lentChecks firstRefusal choose
+returns c = rw (sym (c .before .before .ram-unfit .ensures) ∙ c .before .if1 .taken) (c .refused .ensures)
+
+refused-requires-2 : tie.Need-refused-requires-2
+refused-requires-2 c κs = search needs
+
+returns-2 : tie.Need-returns-2
+unfolding lentChecks firstRefusal accepted choose
+returns-2 c = rw (sym (c .before .before .ram-unfit .ensures) ∙ c .before .if1 .left) (c .refused2 .ensures)
+
+pub lent-refusal-spec : {M : Type 1} → statement M
+lent-refusal-spec =
+    tie.close (tie.spec ram-unfit-requires refused-requires returns refused-requires-2 returns-2)

@@ -1,0 +1,83 @@
+use Rattle.load_page.proofs.Copied.{no-copy-page-is, section-page-is}
+use borrow.Author.Needs.{needs}
+use Rattle.load_page.proofs.section_page.Statement.{statement}
+use Rattle.load_page.proofs.section_page.Tie as tie
+
+read-section-requires : tie.Need-read-section-requires
+read-section-requires c κs = search needs
+
+clear-requires : tie.Need-clear-requires
+clear-requires c κs = search needs
+
+same-length : tie.Need-same-length
+same-length c = search needs
+
+returns : tie.Need-returns
+returns c =
+    let at-clear = c .before .before .before in
+    no-copy-page-is _ _ _ (at-clear .before .before .read-section .ensures) (c .if1 .taken) (at-clear .clear .ensures)
+
+cast-offset : tie.Need-cast-offset
+cast-offset c = search needs
+
+mul-first : tie.Need-mul-first
+mul-first c = search needs
+
+cast-part : tie.Need-cast-part
+cast-part c = search needs
+
+cast-part-2 : tie.Need-cast-part-2
+cast-part-2 c = search needs
+
+part-requires : tie.Need-part-requires
+part-requires c κs = search needs
+
+minus-requires : tie.Need-minus-requires
+minus-requires c κs = search needs
+
+tail-requires : tie.Need-tail-requires
+tail-requires c κs = search needs
+
+minus-requires-2 : tie.Need-minus-requires-2
+minus-requires-2 c κs = search needs
+
+copy-in-requires : tie.Need-copy-in-requires
+copy-in-requires c κs = search needs
+
+same-length-2 : tie.Need-same-length-2
+same-length-2 c = search needs
+
+returns-2 : tie.Need-returns-2
+returns-2 c =
+    let at-tail = c .before .before .before .before .before in
+    let at-if = at-tail .before .before .before .before .before .before in
+    let at-clear = at-if .before .before .before in
+    section-page-is _ _ _
+    (at-clear .before .before .read-section .ensures)
+    (at-if .if1 .left)
+    (at-clear .clear .ensures)
+    (at-tail .before .before .part .ensures)
+    (at-tail .before .minus .ensures)
+    (at-tail .tail .ensures)
+    (c .before .before .before .minus2 .ensures)
+    (c .before .before .copy-in .ensures)
+
+pub section-page-spec : {M : Type 1} → statement M
+section-page-spec =
+    tie.close
+    (tie.spec
+    read-section-requires
+    clear-requires
+    same-length
+    returns
+    cast-offset
+    mul-first
+    cast-part
+    cast-part-2
+    part-requires
+    minus-requires
+    tail-requires
+    minus-requires-2
+    copy-in-requires
+    same-length-2
+    returns-2)

@@ -1,0 +1,44 @@
+-- The lines of the listing, one after the other.
+use mathlib.Core.Path.{_≡_, refl}
+use mathlib.Core.Logic.{_≢_}
+use mathlib.Core.List.{List, [], _++_}
+use Prim.Native.Nat.{ℕ, _+_, _-_, _/_}
+use native.Mathlib.Numerals.{add-one}
+use borrow.Author.Tests.{eq-eqb, ne-eqb}
+use Rattle.notation.specs.Lists.{gather}
+use Rattle.laws.specs.Lists.{gather-next}
+use Rattle.laws.specs.Choice.{choose-yes, choose-no}
+use Rattle.types.specs.declared.Answer.{Answer}
+use Rattle.types.specs.declared.PageRange.{PageRange}
+use Rattle.rules.specs.Lent.{Image, Ram, ramArea, pagesIn}
+use Rattle.rules.specs.Block.{processCount}
+use Rattle.rules.specs.Order.{rootTable, pagesOf}
+use Rattle.rules.specs.Load.{physPage, answer}
+use Rattle.text.specs.Text.{Appended}
+use Rattle.text.proofs.Appended.{appended-then}
+use Rattle.report.specs.Lines.{bootLine, processLine, refusedLine}
+use Rattle.report.specs.Listing.{processLines, listing}
+
+-- LINES
+pub lines-none : (b : List ℕ) (ram : PageRange) → processLines b ram 0 ≡ []
+unfolding processLines gather
+lines-none b ram = refl
+
+pub lines-next : (b : List ℕ) (ram : PageRange) (i : ℕ) {xs ys zs : List ℕ} {at m r pages root : ℕ} → Appended xs at (processLines b ram i) ys m
+    → pages ≡ pagesOf b (ram .pages) (i + 1)
+    → root ≡ physPage b ram (rootTable (i + 1))
+    → Appended ys m (processLine (i + 1) pages root) zs r
+    → Appended xs at (processLines b ram (i + 1)) zs r
+unfolding processLines
+lines-next b ram i p e h q = rw gather-next (appended-then p (rw (e, h) at q))
+
+-- LISTING
+module _ (x : Image) (r : Ram) (a : Answer) (e : a ≡ answer x r) where
+  pub listed-refused : {xs ys : List ℕ} {j : ℕ} → a .number ≢ 0 → Appended xs 0 (refusedLine (a .number) (a .place)) ys j → Appended xs 0 (listing x r) ys j
+  unfolding listing
+  listed-refused n p = rw (← e) (rw (choose-no _ _ (ne-eqb _ _ n)) p)
+
+  pub listed-booted : {xs ys zs : List ℕ} {i j : ℕ} → a .number ≡ 0 → Appended xs 0 (bootLine (pagesIn (ramArea r) .pages) (a .free)) ys i
+      → Appended ys i (processLines (x .block) (pagesIn (ramArea r)) (processCount (x .block))) zs j → Appended xs 0 (listing x r) zs j
+  unfolding listing
+  listed-booted z p q = rw (← e) (rw (choose-yes _ _ (eq-eqb _ _ z)) (appended-then p q))
