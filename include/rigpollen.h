@@ -18,9 +18,12 @@
  *   - An area with `const` is only read. It may share bytes with another area
  *     with `const`.
  *   - An area without `const` must not share a byte with any other area of
- *     the same call.
+ *     the same call. (One exception: an `answer` on a stack in the top four
+ *     pages of RAM, see rigpollen_load.)
  *   - A length of 0 is allowed. The pointer must still not be null, and must
  *     be aligned for what it points to; any valid pointer will do.
+ *   - So RAM or flash that starts at address 0 cannot be lent from C: its
+ *     pointer would be null.
  *   - Words in `block` and `ram` are little-endian bytes and need no
  *     alignment.
  *
@@ -78,19 +81,19 @@ extern "C" {
  *       over 4,096
  *  12   the pages needed exceed the pages of RAM                     0
  */
-#define RIGPOLLEN_LOADED              0u
-#define RIGPOLLEN_REFUSED_RAM         1u
-#define RIGPOLLEN_REFUSED_SHORT_BLOCK 2u
-#define RIGPOLLEN_REFUSED_FORMAT      3u
-#define RIGPOLLEN_REFUSED_COUNTS      4u
-#define RIGPOLLEN_REFUSED_LAYOUT      5u
-#define RIGPOLLEN_REFUSED_PROCESS     6u
-#define RIGPOLLEN_REFUSED_SECTION     7u
-#define RIGPOLLEN_REFUSED_RANGE       8u
-#define RIGPOLLEN_REFUSED_FLASH       9u
-#define RIGPOLLEN_REFUSED_ENTRY      10u
-#define RIGPOLLEN_REFUSED_REGION     11u
-#define RIGPOLLEN_REFUSED_PAGES      12u
+#define RIGPOLLEN_LOADED                 0u
+#define RIGPOLLEN_RAM_UNFIT              1u
+#define RIGPOLLEN_BLOCK_TOO_SHORT        2u
+#define RIGPOLLEN_FORMAT_UNKNOWN         3u
+#define RIGPOLLEN_COUNTS_OUT_OF_BOUNDS   4u
+#define RIGPOLLEN_LAYOUT_NOT_TIGHT       5u
+#define RIGPOLLEN_PROCESS_UNFIT          6u
+#define RIGPOLLEN_SECTION_UNFIT          7u
+#define RIGPOLLEN_SECTION_MISPLACED      8u
+#define RIGPOLLEN_SECTION_PAST_FLASH     9u
+#define RIGPOLLEN_ENTRY_POINT_OUTSIDE   10u
+#define RIGPOLLEN_REGION_UNFIT          11u
+#define RIGPOLLEN_RAM_TOO_SMALL         12u
 
 /* Where the words of an answer lie. */
 #define RIGPOLLEN_ANSWER_NUMBER  0 /* 0, or the refusal's number             */
@@ -108,9 +111,7 @@ extern "C" {
  *   flash      the flash image; section records hold offsets into it
  *   ram        the whole of RAM, at most 4,096 pages. The top four pages
  *              are lost to all (stack and guard of the ROM itself) and keep
- *              their bytes; the rest is taken from the top down. The loader
- *              itself never writes those four; a caller whose stack is
- *              there changes them by running.
+ *              their bytes; the rest is taken from the top down.
  *   ram_start  RAM's physical address, a multiple of 4,096
  *
  * Returns 0, or the number of the refusal.
@@ -119,6 +120,15 @@ extern "C" {
  * there and zero elsewhere, and pages not taken keep their bytes. After a
  * refusal, RAM is byte for byte as it came, so another block can be tried
  * on it.
+ *
+ * The caller's own stack. It may lie in the top four pages of RAM while all
+ * of RAM is lent: the load neither reads nor writes those pages. What the
+ * caller's stack changes there is its own doing. For the same reason an
+ * `answer` that stands on that stack is the one area that may share bytes
+ * with `ram`.
+ *
+ * Not noticed. A block or a flash image that lies in RAM pages which the load
+ * takes is overwritten while it is read; nothing can tell.
  */
 uint32_t rigpollen_load(const uint8_t *block, size_t block_length,
                         const uint8_t *flash, size_t flash_length,
