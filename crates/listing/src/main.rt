@@ -1,6 +1,6 @@
 // listing BLOCK FLASH START PAGES: loads a boot block file and a flash file into RAM of so many pages, which starts at physical
-// address START, and prints the listing of 01. With no arguments it lists the small board. What is wrong with an argument is
-// said in one line on standard error, and nothing else is printed.
+// address START, and prints the listing of 01. With no arguments it lists the small board; with -h or --help alone it prints how
+// it is called. What is wrong with an argument is said in one line on standard error, and nothing else is printed.
 ghost use mathlib.Core.Path.{_≡_};
 ghost use lib.ListN.{length};
 ghost use Prim.Native.Nat.{_≤_};
@@ -28,6 +28,24 @@ fn complain(line: &[u8]) {
     io::write_all(STDERR_FILENO, line);
 }
 
+// Prints, or says why not. (A pipe that nobody reads ends the program, by a signal.)
+fn print(text: &[u8]) {
+    if !io::write_all(STDOUT_FILENO, text) {
+        os::fail(b"listing: standard output");
+    }
+}
+
+// Says by errno what is wrong with a file, by the name it was given.
+fn fail_on(name: &[u8]) {
+    // A write that succeeds leaves errno as it is.
+    complain(b"listing: ");
+    if name.len() == 0 {
+        os::fail(b"''");
+        return;
+    }
+    os::fail(name);
+}
+
 // Loads, and prints the listing. RAM has 16 pages at most.
 fn list(block: &[u8], flash: &[u8], start: u32, pages: u32) {
     let mut ram = io::large_buffer();
@@ -35,27 +53,12 @@ fn list(block: &[u8], flash: &[u8], start: u32, pages: u32) {
     // 16 processes have less text than that.
     let mut text = [0u8; 1024];
     let n = report::load_listing(block, flash, &mut ram[..end], start, &mut text);
-    io::write_all(STDOUT_FILENO, slices::part(&text, 0, n));
+    print(slices::part(&text, 0, n));
 }
 
 fn list_small_board() {
     let flash = [0u8; small_block::FLASH];
     list(&small_block::block(), &flash, small_block::START, PAGES);
-}
-
-// Opens the file that argument i names; `name` is what the usage calls it. Below 0 it was said why not.
-fn open_argument(i: usize, name: &[u8]) -> i32 {
-    let mut path = io::buffer();
-    let n = os::arg(i, &mut path);
-    if os::errno() != 0 {
-        os::fail(name);
-        return -1;
-    }
-    let fd = os::open_read(&path[..n]);
-    if fd < 0 {
-        os::fail(name);
-    }
-    fd
 }
 
 // What is left to read shows whether the file ended, goes on or cannot be read.
@@ -64,7 +67,7 @@ fn read_to_end(fd: i32, buf: &mut [u8], name: &[u8]) -> File {
     let mut next = [0u8; 1];
     let more = libc::read(fd, &mut next);
     if more < 0 {
-        os::fail(name);
+        fail_on(name);
         return File::Unread;
     }
     if more > 0 {
@@ -73,9 +76,10 @@ fn read_to_end(fd: i32, buf: &mut [u8], name: &[u8]) -> File {
     File::Whole(n)
 }
 
-fn read_argument(i: usize, buf: &mut [u8], name: &[u8]) -> File {
-    let fd = open_argument(i, name);
+fn read_file(name: &[u8], buf: &mut [u8]) -> File {
+    let fd = os::open_read(name);
     if fd < 0 {
+        fail_on(name);
         return File::Unread;
     }
     let file = read_to_end(fd, buf, name);
@@ -146,14 +150,15 @@ fn number_in(text: &[u8], base: u64) -> u64
     value
 }
 
-// A number in decimal, or in hexadecimal after 0x.
+// A number in decimal, or in hexadecimal after 0x or 0X.
 fn number_of(text: &[u8]) -> u64 {
-    if slices::byte(text, 0) == b'0' {
-        if slices::byte(text, 1) == b'x' {
-            return number_in(slices::tail(text, 2), 16);
-        }
+    if slices::byte(text, 0) != b'0' {
+        return number_in(text, 10);
     }
-    number_in(text, 10)
+    match slices::byte(text, 1) {
+        b'x' | b'X' => number_in(slices::tail(text, 2), 16),
+        _ => number_in(text, 10),
+    }
 }
 
 // The number that argument i spells; else `line` is said.
@@ -201,26 +206,87 @@ fn flash_space() -> [u8; 262144]
     [0; 262144]
 }
 
-fn list_with_flash(block: &[u8]) {
+fn list_with_flash_file(block: &[u8], name: &[u8]) {
     let mut flash = flash_space();
-    let file = read_argument(2, &mut flash, b"listing: FLASH");
+    let file = read_file(name, &mut flash);
     match file {
         File::Whole(n) => list_on_board(block, slices::part(&flash, 0, n)),
-        File::Longer => complain(b"listing: FLASH: over 262,144 bytes\n"),
+        File::Longer => {
+            complain(b"listing: ");
+            complain(name);
+            complain(b": over 262,144 bytes\n");
+        }
         File::Unread => {}
     }
 }
 
+fn list_with_flash(block: &[u8]) {
+    let mut name = io::buffer();
+    let n = os::arg(2, &mut name);
+    if os::errno() != 0 {
+        os::fail(b"listing: FLASH");
+        return;
+    }
+    list_with_flash_file(block, &name[..n]);
+}
+
 // A block that is accepted has at most 1,568 bytes. So of a longer file no more than the buffer holds can matter: it is refused
 // by its length or before.
-fn list_arguments() {
+fn list_block_file(name: &[u8]) {
     let mut block = io::buffer();
-    let file = read_argument(1, &mut block, b"listing: BLOCK");
+    let file = read_file(name, &mut block);
     match file {
         File::Whole(n) => list_with_flash(slices::part(&block, 0, n)),
         File::Longer => list_with_flash(slices::part(&block, 0, 4096)),
         File::Unread => {}
     }
+}
+
+fn list_arguments() {
+    let mut name = io::buffer();
+    let n = os::arg(1, &mut name);
+    if os::errno() != 0 {
+        os::fail(b"listing: BLOCK");
+        return;
+    }
+    list_block_file(&name[..n]);
+}
+
+fn print_help() {
+    print(
+        b"listing BLOCK FLASH START PAGES\n\
+          Loads a boot block and a flash image into RAM, and prints the boot, or the refusal's number and place.\n\
+          BLOCK: the boot block file\n\
+          FLASH: the flash file, of at most 262,144 bytes\n\
+          START: the physical address at which RAM starts, below 2^32\n\
+          PAGES: how many pages of 4,096 bytes RAM has, at most 16\n\
+          START and PAGES are decimal, or hexadecimal after 0x.\n\
+          Without arguments it loads 01's small board. With -h or --help alone it prints this.\n",
+    );
+}
+
+fn same(a: &[u8], b: &[u8]) -> bool {
+    if a.len() != b.len() {
+        return false;
+    }
+    let mut i = 0;
+    while i < a.len() {
+        if a[i] != slices::byte(b, i) {
+            return false;
+        }
+        i += 1;
+    }
+    true
+}
+
+// Whether the first argument asks for help.
+fn help_asked() -> bool {
+    let mut text = io::buffer();
+    let n = os::arg(1, &mut text);
+    if same(&text[..n], b"-h") {
+        return true;
+    }
+    same(&text[..n], b"--help")
 }
 
 // Of 2, 3 or 4 arguments, the program's own name among them.
@@ -240,6 +306,12 @@ fn main() {
     if count < 2 {
         list_small_board();
         return;
+    }
+    if count == 2 {
+        if help_asked() {
+            print_help();
+            return;
+        }
     }
     if count < 5 {
         complain_missing(count);

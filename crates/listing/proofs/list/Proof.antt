@@ -31,8 +31,8 @@ slice-aggregate-part c = search needs
 part-requires : tie.Need-part-requires
 part-requires c κs = search needs
 
-write-all-requires : tie.Need-write-all-requires
-write-all-requires c κs = search needs
+print-requires : tie.Need-print-requires
+print-requires c κs = search needs
 
 returns : tie.Need-returns
 returns c = search needs
@@ -50,5 +50,5 @@ list-spec =
     load-listing-requires
     slice-aggregate-part
     part-requires
-    write-all-requires
+    print-requires
     returns)
