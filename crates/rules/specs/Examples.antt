@@ -72,6 +72,7 @@ unfolding board smallBoard given exampleHolds allHold examples
 example-rules = tt
 
 -- all examples hold
+-- where this is refused: `--` before rows of `examples`, from the last up, with `rt dev rules` after each, until it passes
 pub P1-to-P12 : allHold examples ≡ true
 unfolding example-rules load-rules refusal-rules order-rules block-rules area-rules words lists choices
 P1-to-P12 = refl
