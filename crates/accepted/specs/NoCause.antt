@@ -1,18 +1,20 @@
 -- Where a block boots, no cause of a refusal holds: each by its name.
-use mathlib.Core.Path.{_≡_, refl}
+use mathlib.Core.Path.{_≡_, refl, sym}
 use mathlib.Core.List.{List}
 use mathlib.Core.Bool.{Bool, true, false}
 use Prim.Native.Nat.{ℕ, suc, _<_}
 use native.Mathlib.Omega.{arith}
 use lib.ListN.{length}
+use lib.Dec.{eqb}
 use borrow.Author.Tests.{eqb-true}
 use Rattle.notation.specs.Choice.{choose}
 use Rattle.types.specs.declared.Area.{Area}
+use Rattle.types.specs.declared.Answer.{Answer}
 use Rattle.rules.specs.Lent.{Image, Ram, ramArea, pagesIn}
 use Rattle.rules.specs.Block.{processCount, sectionCount, regionCount}
 use Rattle.rules.specs.Refusals.{ramUnfit, blockTooShort, formatUnknown, countsOutOfBounds, layoutNotTight, processUnfit, sectionUnfit, sectionMisplaced, sectionPastFlash}
 use Rattle.rules.specs.Refusals.{entryPointOutside, regionUnfit, ramTooSmall, sectionRefusal, lentChecks, headerChecks, recordChecks, checks, verdict}
-use Rattle.rules.specs.Load.{boots}
+use Rattle.rules.specs.Load.{boots, bootAnswer, refusalAnswer, answerOn}
 use Rattle.laws.specs.Choice.{by-choose}
 use Rattle.laws.specs.Lists.{Every}
 use Rattle.accepted.specs.Checks.{Passes, verdict-passes}
@@ -70,3 +72,9 @@ no-cause x ram e = from-checks x ram (verdict-passes x ram .0 e)
 pub booted : (x : Image) (r : Ram) → boots x r ≡ true → NoCause x (ramArea r)
 unfolding boots
 booted x r e = no-cause x (ramArea r) (eqb-true (verdict x (ramArea r) .number) 0 e)
+
+-- the number of an answer is that of the verdict
+pub answer-number : (x : Image) (ram : Area) → answerOn x ram .number ≡ verdict x ram .number
+unfolding answerOn bootAnswer refusalAnswer
+answer-number x ram = by-choose (λ (a : Answer). a .number ≡ verdict x ram .number) (eqb (verdict x ram .number) 0) _ _
+    (λ e. sym (eqb-true (verdict x ram .number) 0 e)) (λ _. refl)

@@ -3,6 +3,7 @@ ghost use mathlib.Core.Path.{_≡_};
 ghost use Prim.Native.Nat.{ℕ, _+_, _≤_, _<_};
 ghost use Rattle.notation.specs.Words.{word};
 ghost use Rattle.rules.specs.Block.{stackPages, sectionAt};
+ghost use Rattle.rules.specs.Contents.{stackPointer};
 ghost use Rattle.block_records.specs.Read.{IsProcess, IsSection, IsRegion};
 use types::VirtPage;
 
@@ -60,6 +61,13 @@ pub fn stack_pages(block: &[u8], q: u32) -> u32
     ensures { λ r. ⌜ (r ≡ stackPages (now (block .entry)) q) × (r ≤ 255) ⌝ }
 {
     if q == 1 { 0 } else { 4 }
+}
+
+// The stack pointer that process q starts with; the kernel has 0.
+pub fn stack_pointer(q: u32) -> u32
+    ensures { λ r. ⌜ r ≡ stackPointer q ⌝ }
+{
+    if q == 1 { 0 } else { 0x8000_0000 }
 }
 
 // Where the words of section record n are read. Past the end all words are 0, and 16 n might wrap.

@@ -1,11 +1,13 @@
 -- What an accepted verdict leaves, and the answers.
-use mathlib.Core.Path.{_≡_, sym, _∙_}
+use mathlib.Core.Path.{_≡_, refl, sym, ap, _∙_}
 use mathlib.Core.Logic.{_≢_}
 use mathlib.Core.List.{List}
 use Prim.Native.Nat.{ℕ, _-_, _/_, _≤_}
 use native.Mathlib.Omega.{arith}
 use lib.ListN.{length}
 use borrow.Author.Tests.{eq-eqb, ne-eqb}
+use Rattle.types.specs.declared.Area.{Area}
+use Rattle.types.specs.declared.Answer.{Answer}
 use Rattle.types.specs.declared.PageRange.{PageRange}
 use Rattle.types.specs.declared.Verdict.{Verdict}
 use Rattle.rules.specs.Lent.{Image, Ram, ramArea, pagesIn}
@@ -14,30 +16,43 @@ use Rattle.rules.specs.Refusals.{verdict}
 use Rattle.rules.specs.Load.{loaded, boots, ramAfter, refusalAnswer, bootAnswer, answerOn, answer}
 use Rattle.laws.specs.Choice.{choose-yes, choose-no}
 use Rattle.order_laws.specs.Room.{needed-parts}
-use Rattle.accepted.specs.Fits.{Fits}
+use Rattle.accepted.specs.NoCause.{answer-number}
+use Rattle.accepted.specs.Fits.{Fits, Accepted, accepted}
 
 pub tracker-few : (b : List ℕ) (ram : PageRange) → Fits b ram → trackerPages b (ram .pages) ≤ 4096
 tracker-few b ram f = omega (arith, needed-parts b (ram .pages), f .enough, f .few-pages)
 
-pub free-le : (b : List ℕ) (N free : ℕ) → free ≡ freePages b N → free ≤ N
-unfolding freePages
-free-le b N free e = omega arith
+-- THE ANSWER
+module _ (x : Image) (ram : Area) (v : Verdict) (e : v ≡ verdict x ram) where
+  pub refused-answer : v .number ≢ 0 → record { number = v .number; place = v .place; taken = 0; free = 0; tracker = 0 } ≡ answerOn x ram
+  unfolding answerOn refusalAnswer
+  refused-answer n = rw (← e) (sym (choose-no _ _ (ne-eqb (v .number) 0 n)))
 
--- THE ANSWERS
-module _ (x : Image) (r : Ram) (v : Verdict) (e : v ≡ verdict x (ramArea r)) where
-  pub refused-answer : v .number ≢ 0
-      → (record { number = v .number; place = v .place; taken = 0; free = 0; tracker = 0 } ≡ answer x r) × (r .bytes ≡ ramAfter x r)
-  unfolding answer answerOn refusalAnswer ramAfter boots
-  refused-answer n = rw (← e) (sym (choose-no _ _ (ne-eqb (v .number) 0 n)), sym (choose-no _ _ (ne-eqb (v .number) 0 n)))
+  pub boot-answer : (taken tracker : ℕ) → v .number ≡ 0 → taken ≡ pagesNeeded (x .block) (pagesIn ram .pages) → tracker ≡ trackerPages (x .block) (pagesIn ram .pages)
+      → record { number = 0; place = 0; taken = taken; free = pagesIn ram .pages - taken; tracker = tracker } ≡ answerOn x ram
+  unfolding answerOn bootAnswer freePages
+  boot-answer taken tracker z ek et = rw (← e, ek, et) (sym (choose-yes _ _ (eq-eqb (v .number) 0 z)))
 
-  taken : (N needed free : ℕ) → free ≡ N - needed → needed ≤ N → N - free ≡ needed
-  taken N needed free e l = omega arith
+-- RAM AFTER THE CALL
+module _ (x : Image) (r : Ram) (full : Answer) (e : full ≡ answerOn x (ramArea r)) where
+  number-is : full .number ≡ verdict x (ramArea r) .number
+  number-is = ap (λ (a : Answer). a .number) e ∙ answer-number x (ramArea r)
 
-  pub boot-answer : (bytes : List ℕ) (free tracker : ℕ) → v .number ≡ 0 → Fits (x .block) (pagesIn (ramArea r))
-      → free ≡ freePages (x .block) (pagesIn (ramArea r) .pages) → tracker ≡ trackerPages (x .block) (pagesIn (ramArea r) .pages) → bytes ≡ loaded x r
-      → (record { number = 0; place = 0; taken = pagesIn (ramArea r) .pages - free; free = free; tracker = tracker } ≡ answer x r) × (bytes ≡ ramAfter x r)
-  unfolding answer answerOn bootAnswer ramAfter boots
-  boot-answer bytes free tracker z f ef et er =
-      let N : ℕ = pagesIn (ramArea r) .pages in
-      let t : N - free ≡ pagesNeeded (x .block) N = taken N (pagesNeeded (x .block) N) free (unfold freePages in ef) (f .enough) in
-      rw (← e) (rw (t, ef, et) (sym (choose-yes _ _ (eq-eqb (v .number) 0 z))), er ∙ sym (choose-yes _ _ (eq-eqb (v .number) 0 z)))
+  pub full-answer : full ≡ answer x r
+  unfolding answer
+  full-answer = e
+
+  pub ram-kept : full .number ≢ 0 → r .bytes ≡ ramAfter x r
+  unfolding ramAfter boots
+  ram-kept n = sym (choose-no _ _ (ne-eqb _ 0 (λ z. n (number-is ∙ z))))
+
+  pub ram-loaded : {bytes : List ℕ} → full .number ≡ 0 → bytes ≡ loaded x r → bytes ≡ ramAfter x r
+  unfolding ramAfter boots
+  ram-loaded z l = l ∙ sym (choose-yes _ _ (eq-eqb _ 0 (sym number-is ∙ z)))
+
+  pub ram-accepted : full .number ≡ 0 → Accepted (x .block) (ramArea r)
+  ram-accepted z = accepted x (ramArea r) (verdict x (ramArea r)) refl (sym number-is ∙ z)
+
+  pub taken-needed : full .number ≡ 0 → full .taken ≡ pagesNeeded (x .block) (pagesIn (ramArea r) .pages)
+  unfolding answerOn bootAnswer
+  taken-needed z = ap (λ (a : Answer). a .taken) (e ∙ choose-yes _ _ (eq-eqb _ 0 (sym number-is ∙ z)))

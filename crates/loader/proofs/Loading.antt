@@ -8,7 +8,7 @@ use Rattle.types.specs.declared.PageRange.{PageRange}
 use Rattle.rules.specs.Lent.{Image, Ram, ramArea, pagesIn}
 use Rattle.rules.specs.Block.{processCount}
 use Rattle.rules.specs.Space.{processList, blockCopy}
-use Rattle.rules.specs.Order.{Use, holds, allSections, trackerUses, allTables, belowTop, uses, trackerPages, pagesNeeded, freePages}
+use Rattle.rules.specs.Order.{Use, holds, allSections, trackerUses, allTables, belowTop, uses, trackerPages, pagesNeeded}
 use Rattle.rules.specs.Contents.{processListByte, dataByte}
 use Rattle.rules.specs.Load.{satpWord, pageByte, loaded}
 use Rattle.order_laws.specs.Places.{trackerPlace, rootPlace, tracker-uses-length, all-sections-length, tables-before-none}
@@ -53,9 +53,6 @@ joined : (b : List ℕ) (T : ℕ) → (((allSections b ++ trackerUses T) ++ (hol
 unfolding belowTop
 joined b T = simp append-assoc
 
-free-left : (N needed below n : ℕ) → n ≡ N - 4 - below → needed ≡ 4 + below → n ≡ N - needed
-free-left N needed below n e d = omega arith
-
 module _ (x : Image) (r : Ram) (ok : Accepted (x .block) (ramArea r)) {r₁ r₂ r₃ r₄ r₅ : List ℕ} {n₁ n₂ n₃ n₄ n₅ : ℕ}
     (w₁ : Wrote (sectionContent x) (allSections (x .block)) (r .bytes) (pagesIn (ramArea r) .pages - 4) r₁ n₁)
     (w₂ : WroteAny (x .block) (pagesIn (ramArea r)) (trackerUses (trackerPages (x .block) (pagesIn (ramArea r) .pages))) r₁ n₁ r₂ n₂)
@@ -75,9 +72,5 @@ module _ (x : Image) (r : Ram) (ok : Accepted (x .block) (ramArea r)) {r₁ r₂
       rw (joined (x .block) (trackerPages (x .block) (ram .pages))) at
       (wrote-then (wrote-then (wrote-then (wrote-then (wrote-sections x ram w₁) (w₂ .wrote (x .flash))) list) copy) (w₅ .wrote (x .flash)))
 
-  pub pages-end : (n₅ ≡ freePages (x .block) (ram .pages)) × (r₅ ≡ loaded x r)
-  unfolding freePages pagesNeeded uses
-  pages-end = (
-    free-left _ _ _ _ (all-written .left) (below-top-length (x .block) (trackerPages (x .block) (ram .pages))),
-    all-written .bytes ∙ written-is-loaded x r (ok .whole-pages) (ok .room .enough),
-  )
+  pub pages-end : r₅ ≡ loaded x r
+  pages-end = all-written .bytes ∙ written-is-loaded x r (ok .whole-pages) (ok .room .enough)

@@ -60,9 +60,13 @@ module _ {b : List ℕ} {ram : PageRange} (f : Fits b ram) where
 
 -- WORDS
 -- three words, one after the other
-pub three-words : (d₀ : List ℕ) (a w₀ : ℕ) {d₁ d₂ d₃ : List ℕ} {w₁ w₂ v₁ v₂ : ℕ} → d₁ ≡ withWord d₀ a w₀ → d₂ ≡ withWord d₁ (a + 4) w₁ → d₃ ≡ withWord d₂ (a + 8) w₂ → w₁ ≡ v₁ → w₂ ≡ v₂
-    → d₃ ≡ withWord (withWord (withWord d₀ a w₀) (a + 4) v₁) (a + 8) v₂
-three-words d₀ a w₀ e₁ e₂ e₃ p q = e₃ ∙ rw (e₂, e₁, p, q)
+pub three-words : (d₀ : List ℕ) (a : ℕ) {d₁ d₂ d₃ : List ℕ} {w₀ w₁ w₂ v₀ v₁ v₂ : ℕ} → d₁ ≡ withWord d₀ a w₀ → d₂ ≡ withWord d₁ (a + 4) w₁ → d₃ ≡ withWord d₂ (a + 8) w₂
+    → w₀ ≡ v₀ → w₁ ≡ v₁ → w₂ ≡ v₂ → d₃ ≡ withWord (withWord (withWord d₀ a v₀) (a + 4) v₁) (a + 8) v₂
+three-words d₀ a e₁ e₂ e₃ p₀ p₁ p₂ = e₃ ∙ rw (e₂, e₁, p₀, p₁, p₂)
+
+-- a word of its own size is told as it is
+pub satp-small : (q root w : ℕ) → q ≤ 16 → root < 0x10_0000 → w ≡ (0x8000_0000 + 0x40_0000 * q + root) % 0x1_0000_0000 → w ≡ 0x8000_0000 + 0x40_0000 * q + root
+satp-small q root w h l e = omega arith
 
 -- byte k of the list
 abbrev pub listByte : List ℕ → (ℕ → ℕ) → ℕ → ℕ

@@ -3,8 +3,8 @@ ghost use mathlib.Core.Path.{_≡_};
 ghost use Prim.Native.Nat.{_-_, _/_};
 ghost use lib.ListN.{length, getD};
 ghost use Rattle.rules.specs.Lent.{imageOf, ramOf, areaOf};
-ghost use Rattle.rules.specs.Order.{freePages};
-ghost use Rattle.rules.specs.Load.{loaded, answer, ramAfter};
+ghost use Rattle.rules.specs.Order.{pagesNeeded};
+ghost use Rattle.rules.specs.Load.{loaded, answerOn, answer, ramAfter};
 ghost use Rattle.writing.specs.Pages.{put};
 ghost use Rattle.accepted.specs.Fits.{Accepted};
 use page_allocator::PageAllocator;
@@ -30,22 +30,15 @@ fn load_block(ram: &mut [u8], block: &[u8], from: PageAllocator) -> PageAllocato
     got.rest
 }
 
-// All pages of a block that was accepted on this RAM. Answers how many pages are free.
-fn load_pages(block: &[u8], flash: &[u8], ram: &mut [u8], start: u32) -> u32
-    requires { ⌜ Accepted (now block) (areaOf start (length (now ram))) ⌝ }
-    ensures { λ r. ⌜ (r ≡ freePages (now (block .entry)) (length (now (ram .entry)) / 4096))
-        × (now (ram .exit) ≡ loaded (imageOf (now (block .entry)) (now (flash .entry))) (ramOf start (now (ram .entry)))) ⌝ }
+// All pages of a block that was accepted on this RAM, of which it needs `needed`.
+fn load_pages(block: &[u8], flash: &[u8], ram: &mut [u8], start: u32, needed: u32)
+    requires { ⌜ Accepted (now block) (areaOf start (length (now ram))) × (needed ≡ pagesNeeded (now block) (length (now ram) / 4096)) ⌝ }
+    ensures { λ _. ⌜ now (ram .exit) ≡ loaded (imageOf (now (block .entry)) (now (flash .entry))) (ramOf start (now (ram .entry))) ⌝ }
 {
     let range = PageRange {
         base: start / 4096,
         pages: (ram.len() / 4096) as u32,
     };
-    // The place after all tables.
-    let needed = order_places::root_place(
-        block,
-        range.pages,
-        block_header::process_count(block) + 1,
-    );
     let below_top = PageAllocator {
         left: range.pages - TOP_PAGES,
     };
@@ -53,17 +46,15 @@ fn load_pages(block: &[u8], flash: &[u8], ram: &mut [u8], start: u32) -> u32
     let after_tracker = tracker::load_tracker(ram, block, range, needed, after_sections);
     let after_list = process_list::load_process_list(ram, block, range, after_tracker);
     let after_copy = load_block(ram, block, after_list);
-    let after_tables = table_pages::load_tables(ram, block, range, after_copy);
-    after_tables.left
+    table_pages::load_tables(ram, block, range, after_copy);
 }
 
-// Loads the block's programs from flash into RAM that starts at physical address `start`, or refuses. Answers number, place,
-// pages taken, pages free and tracker pages; in a refusal the three counts are 0 and RAM is as it came.
-pub fn load(block: &[u8], flash: &[u8], ram: &mut [u8], start: u32) -> Answer
-    ensures { λ r. ⌜ (r ≡ answer (imageOf (now (block .entry)) (now (flash .entry))) (ramOf start (now (ram .entry))))
-        × (now (ram .exit) ≡ ramAfter (imageOf (now (block .entry)) (now (flash .entry))) (ramOf start (now (ram .entry)))) ⌝ }
+// The answer to a load into RAM of `ram` bytes from `start` on: number, place, pages taken, pages free and tracker pages; in a
+// refusal the three counts are 0.
+pub fn answer_on(block: &[u8], flash: &[u8], start: u32, ram: usize) -> Answer
+    ensures { λ r. ⌜ r ≡ answerOn (imageOf (now (block .entry)) (now (flash .entry))) (areaOf start ram) ⌝ }
 {
-    let verdict = checks::check(block, flash, start, ram.len());
+    let verdict = checks::check(block, flash, start, ram);
     if verdict.number != 0 {
         return Answer {
             number: verdict.number,
@@ -73,14 +64,28 @@ pub fn load(block: &[u8], flash: &[u8], ram: &mut [u8], start: u32) -> Answer
             tracker: 0,
         };
     }
-    let pages = (ram.len() / 4096) as u32;
+    let pages = (ram / 4096) as u32;
     let tracker = order_tracker::tracker_pages(block, pages) as u32;
-    let free = load_pages(block, flash, ram, start);
+    // The place after all tables.
+    let taken = order_places::root_place(block, pages, block_header::process_count(block) + 1);
     Answer {
         number: 0,
         place: 0,
-        taken: pages - free,
-        free,
+        taken,
+        free: pages - taken,
         tracker,
     }
+}
+
+// Loads the block's programs from flash into RAM that starts at physical address `start`, or refuses and leaves RAM as it came.
+pub fn load(block: &[u8], flash: &[u8], ram: &mut [u8], start: u32) -> Answer
+    ensures { λ r. ⌜ (r ≡ answer (imageOf (now (block .entry)) (now (flash .entry))) (ramOf start (now (ram .entry))))
+        × (now (ram .exit) ≡ ramAfter (imageOf (now (block .entry)) (now (flash .entry))) (ramOf start (now (ram .entry)))) ⌝ }
+{
+    let full = answer_on(block, flash, start, ram.len());
+    if full.number != 0 {
+        return full;
+    }
+    load_pages(block, flash, ram, start, full.taken);
+    full
 }

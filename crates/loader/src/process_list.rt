@@ -16,16 +16,6 @@ use page_allocator::page_at;
 use types::PageRange;
 use types::PhysPage;
 
-// The stack pointer that process q starts with.
-fn stack_pointer(q: u32) -> u32
-    ensures { λ r. ⌜ r ≡ stackPointer q ⌝ }
-{
-    if q == 1 {
-        return 0;
-    }
-    0x8000_0000
-}
-
 // The three words of process q, whose root table is the physical page `root`.
 fn put_process(page: &mut [u8], block: &[u8], q: u32, root: PhysPage)
     requires { ⌜ (1 ≤ q) × (q ≤ 16) × (root .0 < 0x10_0000) ⌝ }
@@ -36,9 +26,9 @@ fn put_process(page: &mut [u8], block: &[u8], q: u32, root: PhysPage)
 {
     let process = block_records::read_process(block, q);
     let at = 12 * (q as usize - 1);
-    word_stores::put_word(page, at, 0x8000_0000 + 0x40_0000 * q + root.0);
+    word_stores::put_word(page, at, sv32_entries::satp_word(q, root));
     word_stores::put_word(page, at + 4, process.entry_point);
-    word_stores::put_word(page, at + 8, stack_pointer(q));
+    word_stores::put_word(page, at + 8, block_records::stack_pointer(q));
 }
 
 // The whole list. `first` is the place of the kernel's root table in the order of pages; each root is followed by the leaf

@@ -2,14 +2,18 @@
 ghost use mathlib.Core.Path.{_≡_};
 ghost use lib.ListN.{set};
 ghost use lib.Seq.{sets};
-ghost use Rattle.rules.specs.Lent.{imageOf, ramOf};
-ghost use Rattle.rules.specs.Load.{answer as answerOf, ramAfter};
+ghost use Rattle.rules.specs.Lent.{imageOf, ramOf, areaOf};
+ghost use Rattle.rules.specs.Load.{answerOn, answer as answerOf, ramAfter};
 ghost use Rattle.rules.specs.Reader.{walk};
-ghost use Rattle.rigpollen.specs.Words.{answerWords, rightsWord, entryNumber, entryWords};
+ghost use Rattle.rigpollen.specs.Words.{answerWords, startWords, processNumber, processWords, rightsWord, entryNumber, entryWords};
+use order_roots::Root;
 use types::Answer;
 use types::Entry;
 use types::PhysPage;
 use types::Rights;
+
+// The number for a process that there is not.
+const NO_PROCESS: u32 = 31;
 
 // A word at an index, where there is one.
 fn put(words: &mut [u32], at: usize, word: u32)
@@ -59,6 +63,62 @@ pub extern "C" fn rigpollen_answer(
     let full = loader::load(block, flash, ram, ram_start);
     tell_answer(full, answer);
     full.number
+}
+
+// The answer that the load would give on RAM of `ram_length` bytes from `ram_start` on, with no RAM lent. It is put into `answer` as
+// `rigpollen_answer` puts it.
+#[no_mangle]
+pub extern "C" fn rigpollen_check(
+    block: &[u8],
+    flash: &[u8],
+    ram_length: usize,
+    ram_start: u32,
+    answer: &mut [u32],
+) -> u32
+    ensures { λ r. ⌜ (r ≡ answerOn (imageOf (now (block .entry)) (now (flash .entry))) (areaOf «ram_start» «ram_length») .number)
+        × (now (answer .exit) ≡ sets (now (answer .entry)) 0 (answerWords (answerOn (imageOf (now (block .entry)) (now (flash .entry))) (areaOf «ram_start» «ram_length»)))) ⌝ }
+{
+    let full = loader::answer_on(block, flash, ram_start, ram_length);
+    tell_answer(full, answer);
+    full.number
+}
+
+// The three words of process q, whose root table is at `root`.
+fn tell_process(block: &[u8], q: u32, root: PhysPage, words: &mut [u32])
+    ensures { λ _. ⌜ now (words .exit) ≡ sets (now (words .entry)) 0 (startWords (now (block .entry)) q (root .0)) ⌝ }
+{
+    let process = block_records::read_process(block, q);
+    put(words, 0, sv32_entries::satp_word(q, root));
+    put(words, 1, process.entry_point);
+    put(words, 2, block_records::stack_pointer(q));
+}
+
+// What a process starts with, where the block boots on RAM of `ram_length` bytes from `ram_start` on: its satp word, entry point and
+// stack pointer are put into `words`, as many as fit, as the process list has them. Returns 0; else the number of the refusal, or 31
+// where there is no such process, and `words` stays.
+#[no_mangle]
+pub extern "C" fn rigpollen_process(
+    block: &[u8],
+    flash: &[u8],
+    ram_length: usize,
+    ram_start: u32,
+    process: u32,
+    words: &mut [u32],
+) -> u32
+    ensures { λ r. ⌜ (r ≡ processNumber (imageOf (now (block .entry)) (now (flash .entry))) (areaOf «ram_start» «ram_length») process)
+        × (now (words .exit) ≡ sets (now (words .entry)) 0 (processWords (imageOf (now (block .entry)) (now (flash .entry))) (areaOf «ram_start» «ram_length») process)) ⌝ }
+{
+    let verdict = checks::check(block, flash, ram_start, ram_length);
+    if verdict.number != 0 {
+        return verdict.number;
+    }
+    match order_roots::find_root(block, flash, ram_start, ram_length, process) {
+        Root::Nowhere => NO_PROCESS,
+        Root::At(page) => {
+            tell_process(block, process, page, words);
+            0
+        }
+    }
 }
 
 // A page's rights as one word.

@@ -3,7 +3,7 @@ use types::Entry;
 use types::PhysPage;
 use types::Rights;
 ghost use mathlib.Core.Path.{_≡_};
-ghost use Prim.Native.Nat.{_%_};
+ghost use Prim.Native.Nat.{_+_, _*_, _%_};
 ghost use Rattle.rules.specs.Entries.{pointerEntry, pageEntry, decode};
 
 // The flags of an entry.
@@ -71,4 +71,11 @@ pub fn decode(e: u32) -> Entry
         },
         PhysPage(e / PPN_WEIGHT),
     )
+}
+
+// The satp word of an address space: mode Sv32, process q as its number (ASID), the page of its root table. Modulo 2^32.
+pub fn satp_word(q: u32, root: PhysPage) -> u32
+    ensures { λ r. ⌜ r ≡ (0x8000_0000 + 0x40_0000 * q + root .0) % 0x1_0000_0000 ⌝ }
+{
+    ((0x8000_0000 + 0x40_0000 * (q as u64) + root.0 as u64) % 0x1_0000_0000) as u32
 }

@@ -12,9 +12,10 @@ use Rattle.types.specs.declared.View.{View}
 use Rattle.rules.specs.Lent.{Image, Ram, ramOf, ramArea, pagesIn}
 use Rattle.rules.specs.Block.{processCount}
 use Rattle.rules.specs.Refusals.{verdict}
-use Rattle.rules.specs.Load.{boots, ramAfter, after, bootAnswer, refusalAnswer, answerOn, answer}
+use Rattle.rules.specs.Load.{boots, ramAfter, after, answer}
 use Rattle.rules.specs.Sees.{seenFrom, rootOf, processSees}
-use Rattle.laws.specs.Choice.{by-choose, and-both, choose-yes, choose-map}
+use Rattle.laws.specs.Choice.{and-both, choose-yes, choose-map}
+use Rattle.accepted.specs.NoCause.{answer-number}
 use Rattle.demands.specs.Demand2.{sees-what-the-rules-give, sees-exactly, one-owner-one-virtual-page, pages-add-up}
 use Rattle.demands.specs.Demand3.{SameOnBoth, boots-on-larger-ram, same-on-both}
 use Rattle.order_roots.specs.declared.Root.{Root}
@@ -38,19 +39,14 @@ module _ (x : Image) (r : Ram) where
   found-seen exit q a root e l =
       rw (e, l) (choose-map (λ (x′ : Root). seenAt x′ (after x r) a) (eqb (verdict x (ramArea r) .number) 0 && isProcess (x .block) q) _ _)
 
-  -- the number of an answer is that of the verdict
-  answer-number : answer x r .number ≡ verdict x (ramArea r) .number
-  unfolding answer answerOn bootAnswer refusalAnswer
-  answer-number = by-choose (λ (a : Answer). a .number ≡ verdict x (ramArea r) .number) (eqb (verdict x (ramArea r) .number) 0) _ _
-      (λ e. sym (eqb-true (verdict x (ramArea r) .number) 0 e)) (λ _. refl)
-
   boots-number : boots x r ≡ true → verdict x (ramArea r) .number ≡ 0
   unfolding boots
   boots-number e = eqb-true _ 0 e
 
   module _ (full : Answer) (ea : full ≡ answer x r) where
     number-of : full .number ≡ verdict x (ramArea r) .number
-    number-of = ap (λ (a : Answer). a .number) ea ∙ answer-number
+    unfolding answer
+    number-of = ap (λ (a : Answer). a .number) ea ∙ answer-number x (ramArea r)
 
     booted : full .number ≡ 0 → boots x r ≡ true
     unfolding boots

@@ -2,8 +2,8 @@ use mathlib.Core.Path.{sym}
 use borrow.Author.Tests.{eq-eqb, ne-eqb}
 use Rattle.rules.specs.Contents.{stackPointer}
 use Rattle.laws.specs.Choice.{choose-yes, choose-no}
-use Rattle.loader.proofs.process_list.stack_pointer.Statement.{statement}
-use Rattle.loader.proofs.process_list.stack_pointer.Tie as tie
+use Rattle.block_records.proofs.stack_pointer.Statement.{statement}
+use Rattle.block_records.proofs.stack_pointer.Tie as tie
 
 returns : tie.Need-returns
 unfolding stackPointer
