@@ -45,7 +45,7 @@ pub fn compare(case: &Case, fault: Fault, rng: &mut Rng, tally: &mut Tally) -> R
 }
 
 /// Both loading entries, each call on a RAM of its own: `rigpollen_answer` with a slice that holds the
-/// whole answer and, in half of the cases, with one that does not; then `rigpollen_load`.
+/// whole answer and, in half of the cases, with one that does not; then `rigpollen_load`. Then the entries without RAM.
 /// Gives back RAM as the first call left it.
 pub fn compare_load(case: &Case, want: &Outcome, rng: &mut Rng) -> Result<Lent, String> {
     let mut block = Lent::new(&case.block, rng.index(8));
@@ -57,8 +57,8 @@ pub fn compare_load(case: &Case, want: &Outcome, rng: &mut Rng) -> Result<Lent, 
     let mut first = None;
     for len in lengths {
         let mut ram = Lent::new(&case.ram, rng.index(8));
-        let (number, words) = ffi::answer(&mut block, &mut flash, &mut ram, case.start, len);
-        compare_answer(number, &words, len, want)?;
+        let got = ffi::answer(&mut block, &mut flash, &mut ram, case.start, len);
+        compare_words("rigpollen_answer", got, len, want.answer[0], &want.answer)?;
         compare_lent("rigpollen_answer", case, want, &block, &flash, &ram)?;
         first.get_or_insert(ram);
     }
@@ -71,32 +71,65 @@ pub fn compare_load(case: &Case, want: &Outcome, rng: &mut Rng) -> Result<Lent, 
         ));
     }
     compare_lent("rigpollen_load", case, want, &block, &flash, &ram)?;
+    compare_without_ram(case, want, &mut block, &mut flash, rng)?;
+    unchanged("entries without RAM: the block", &block, &case.block)?;
+    unchanged("entries without RAM: flash", &flash, &case.flash)?;
     Ok(first.unwrap_or(ram))
 }
 
-/// The returned number, the words of the slice, and that what lies beyond stays.
-fn compare_answer(
-    number: u32,
-    words: &ffi::AnswerWords,
-    len: usize,
+/// The entries that are lent no RAM: the answer, and the words of every process, of number 0, of the number after the
+/// last and of any number.
+fn compare_without_ram(
+    case: &Case,
     want: &Outcome,
+    block: &mut Lent,
+    flash: &mut Lent,
+    rng: &mut Rng,
 ) -> Result<(), String> {
-    let wanted = ffi::answer_words(&want.answer, len);
-    if number == want.answer[0] && *words == wanted {
+    let ram = ffi::Place {
+        start: case.start,
+        len: case.ram.len(),
+    };
+    let len = rng.index(8);
+    let got = ffi::check(block, flash, ram, len);
+    compare_words("rigpollen_check", got, len, want.answer[0], &want.answer)?;
+    let last = want
+        .boot
+        .as_ref()
+        .map_or(0, |boot| *boot.plan.processes().end());
+    for process in (0..=last + 1).chain([rng.word()]) {
+        let len = rng.index(8);
+        let got = ffi::process(block, flash, ram, process, len);
+        let (number, words) = rules::started(want, process);
+        let entry = format!("rigpollen_process of process {process}");
+        compare_words(&entry, got, len, number, &words)?;
+    }
+    Ok(())
+}
+
+/// The returned number, the words of the slice, and that what lies beyond stays.
+fn compare_words(
+    entry: &str,
+    (number, words): (u32, ffi::AnswerWords),
+    len: usize,
+    want_number: u32,
+    want_words: &[u32],
+) -> Result<(), String> {
+    let wanted = ffi::answer_words(want_words, len);
+    if number == want_number && words == wanted {
         return Ok(());
     }
     let slice = ffi::ANSWER_AT..ffi::ANSWER_AT + len;
     let stray = (0..words.len()).any(|at| !slice.contains(&at) && words[at] != wanted[at]);
     Err(format!(
-        "rigpollen_answer returns {number} and leaves {:?} in a slice of {len} words{}; \
-         the rules give {:?}",
+        "{entry} returns {number} and leaves {:?} in a slice of {len} words{}; \
+         the rules give {want_number} and {want_words:?}",
         &words[slice],
         if stray {
             ", and changed words outside it"
         } else {
             ""
         },
-        want.answer
     ))
 }
 

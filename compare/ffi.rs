@@ -1,4 +1,4 @@
-//! The three C entries of the library, and areas to lend to them with guard bytes on both sides.
+//! The five C entries of the library, and areas to lend to them with guard bytes on both sides.
 
 use crate::walker::Found;
 use std::sync::atomic::{AtomicU64, Ordering};
@@ -23,6 +23,27 @@ extern "C" {
         ram_start: u32,
         answer: *mut u32,
         answer_len: usize,
+    ) -> u32;
+    fn rigpollen_check(
+        block: *const u8,
+        block_len: usize,
+        flash: *const u8,
+        flash_len: usize,
+        ram_len: usize,
+        ram_start: u32,
+        answer: *mut u32,
+        answer_len: usize,
+    ) -> u32;
+    fn rigpollen_process(
+        block: *const u8,
+        block_len: usize,
+        flash: *const u8,
+        flash_len: usize,
+        ram_len: usize,
+        ram_start: u32,
+        process: u32,
+        words: *mut u32,
+        words_len: usize,
     ) -> u32;
     fn rigpollen_walk(
         ram: *const u8,
@@ -86,20 +107,20 @@ impl Lent {
     }
 }
 
-/// What lies in the words around and in an `answer` or `page` slice before a call.
+/// What lies in the words around and in an `answer`, `words` or `page` slice before a call.
 fn word_pattern(at: usize) -> u32 {
     0xc3a5_0f00 + at as u32
 }
 
 /// Where the slice begins among the words.
 pub const ANSWER_AT: usize = 4;
-/// The words of an `answer` slice of up to 7 words, with guard words on both sides.
+/// The words of an `answer` or `words` slice of up to 7 words, with guard words on both sides.
 pub type AnswerWords = [u32; 15];
 
-/// What the words must be after `rigpollen_answer` with a slice of `len` words.
-pub fn answer_words(answer: &[u32; 5], len: usize) -> AnswerWords {
+/// What the words must be after a call that puts `answer` into a slice of `len` words.
+pub fn answer_words(answer: &[u32], len: usize) -> AnswerWords {
     std::array::from_fn(|at| match at.checked_sub(ANSWER_AT) {
-        Some(i) if i < len.min(5) => answer[i],
+        Some(i) if i < len.min(answer.len()) => answer[i],
         _ => word_pattern(at),
     })
 }
@@ -158,6 +179,58 @@ pub fn answer(
             ram.start(),
             ram.len,
             start,
+            slice.as_mut_ptr(),
+            len,
+        )
+    };
+    (number, words)
+}
+
+/// RAM as the entries without RAM are told of it.
+#[derive(Clone, Copy)]
+pub struct Place {
+    pub start: u32,
+    pub len: usize,
+}
+
+pub fn check(block: &mut Lent, flash: &mut Lent, ram: Place, len: usize) -> (u32, AnswerWords) {
+    let mut words: AnswerWords = std::array::from_fn(word_pattern);
+    let slice = &mut words[ANSWER_AT..ANSWER_AT + len];
+    // As above; `slice` has `len` words.
+    let number = unsafe {
+        rigpollen_check(
+            block.start(),
+            block.len,
+            flash.start(),
+            flash.len,
+            ram.len,
+            ram.start,
+            slice.as_mut_ptr(),
+            len,
+        )
+    };
+    (number, words)
+}
+
+pub fn process(
+    block: &mut Lent,
+    flash: &mut Lent,
+    ram: Place,
+    process: u32,
+    len: usize,
+) -> (u32, AnswerWords) {
+    let mut words: AnswerWords = std::array::from_fn(word_pattern);
+    let slice = &mut words[ANSWER_AT..ANSWER_AT + len];
+    // As above; `slice` has `len` words.
+    let number = unsafe {
+        rigpollen_process(
+            block.start(),
+            block.len,
+            flash.start(),
+            flash.len,
+            ram.len,
+            ram.start,
+            process,
             slice.as_mut_ptr(),
             len,
         )

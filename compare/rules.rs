@@ -732,6 +732,19 @@ pub fn load(block: &[u8], flash: &[u8], ram: &[u8], start: u32, fault: Fault) ->
     }
 }
 
+/// What a process starts with: 0 and its three words of the process list; else the refusal's number, or 31 where there is
+/// no such process, and no words.
+pub fn started(outcome: &Outcome, process: u32) -> (u32, Vec<u32>) {
+    match &outcome.boot {
+        None => (outcome.answer[0], Vec::new()),
+        Some(boot) if !boot.plan.processes().contains(&process) => (31, Vec::new()),
+        Some(boot) => {
+            let at = 3 * (process as usize - 1);
+            (0, boot.plan.process_list()[at..at + 3].to_vec())
+        }
+    }
+}
+
 /// Fault 4: section pages are written until RAM runs out.
 fn copy_while_it_lasts(plan: &Plan, flash: &[u8], image: &mut [u8]) {
     for (i, page) in plan.order.iter().enumerate() {

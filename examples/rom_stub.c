@@ -3,8 +3,8 @@
  * to do when a block is refused.
  *
  * On the chip, `ram` would be the pointer RAM_START itself, and the last step
- * a jump: satp from the process list's first word, and on to the entry point
- * in its second. Here RAM is an array, and the listing stands for the jump.
+ * a jump: satp and the entry point of process 1 as rigpollen_process gives
+ * them. Here RAM is an array, and the listing stands for the jump.
  */
 #include <stdio.h>
 #include <string.h>
@@ -13,7 +13,6 @@
 
 #define RAM_START     0x40000000u
 #define RAM_PAGES     16u
-#define LOST_PAGES    4u /* the top of RAM: this ROM's stack and its guard */
 #define FLASH_BYTES   320u
 
 #define PROCESSES     2u
@@ -71,26 +70,16 @@ static void make_block(uint8_t block[BLOCK_BYTES])
 
 /* ----------------------------------------------------- what was loaded */
 
-/* Pages from a section's first byte to its last. */
-static uint32_t section_pages(const uint8_t *record)
+/* A process's root table, as its satp word names it; 0 where there is none. */
+static uint32_t root_of(const uint8_t block[BLOCK_BYTES], uint32_t process)
 {
-    const uint32_t address = get_word(record), size = get_word(record + 4);
+    uint32_t words[RIGPOLLEN_LIST_WORDS];
 
-    return (address + (size - 1)) / RIGPOLLEN_PAGE_BYTES
-           - address / RIGPOLLEN_PAGE_BYTES + 1;
-}
-
-/* The kernel's root table, by the order in which pages are taken from the top
- * of RAM: the lost pages, all sections, the tracker, the process list, the
- * block's copy, and then this table. Only for a block that was loaded. */
-static uint32_t kernel_root(const uint8_t block[BLOCK_BYTES],
-                            const uint32_t answer[RIGPOLLEN_ANSWER_WORDS])
-{
-    uint32_t above = LOST_PAGES + answer[RIGPOLLEN_ANSWER_TRACKER] + 2;
-
-    for (uint32_t i = 0; i < SECTIONS; i++)
-        above += section_pages(block + SECTIONS_AT + 16 * i);
-    return RAM_START / RIGPOLLEN_PAGE_BYTES + RAM_PAGES - above - 1;
+    if (rigpollen_process(block, BLOCK_BYTES, flash, sizeof flash, sizeof ram,
+                          RAM_START, process, words, RIGPOLLEN_LIST_WORDS)
+        != RIGPOLLEN_LOADED)
+        return 0;
+    return words[RIGPOLLEN_LIST_SATP] & RIGPOLLEN_SATP_ROOT;
 }
 
 /* Where the byte at a virtual address stands in RAM; a null pointer if there
@@ -134,7 +123,7 @@ static uint32_t listed(uint32_t root, uint32_t process, uint32_t word)
 static void print_listing(const uint8_t block[BLOCK_BYTES],
                           const uint32_t answer[RIGPOLLEN_ANSWER_WORDS])
 {
-    const uint32_t root = kernel_root(block, answer);
+    const uint32_t root = root_of(block, 1);
 
     printf("boot %u pages, %u free\n", (unsigned)RAM_PAGES,
            (unsigned)answer[RIGPOLLEN_ANSWER_FREE]);

@@ -14,7 +14,8 @@
  * here.
  *
  * Areas. Each area is a pointer and a length. The length of `block`, `flash`
- * and `ram` counts bytes, that of `answer` and `page` counts 32-bit words.
+ * and `ram` counts bytes, that of `answer`, `words` and `page` counts 32-bit
+ * words.
  *   - An area with `const` is only read. It may share bytes with another area
  *     with `const`.
  *   - An area without `const` must not share a byte with any other area of
@@ -46,8 +47,8 @@ extern "C" {
 /* ------------------------------------------------------------ the loader */
 
 /*
- * Refusals, as rigpollen_load and rigpollen_answer return them. "Place" is
- * the second word of the answer; it counts records from 0. The first in the
+ * Refusals, as all entries but the reader return them. "Place" is the second
+ * word of the answer; it counts records from 0. The first in the
  * order of the numbers wins, with 7, 8 and 9 tried together for one section
  * before the next.
  *
@@ -151,6 +152,51 @@ uint32_t rigpollen_answer(const uint8_t *block, size_t block_length,
                           uint32_t ram_start,
                           uint32_t *answer, size_t answer_length);
 
+/*
+ * The answer that the load would give, with no RAM lent: it depends on RAM's
+ * length and start alone.
+ *
+ *   ram_length  bytes of RAM
+ *   ram_start   RAM's physical address
+ *   answer      as for rigpollen_answer
+ *
+ * Returns the number too.
+ */
+uint32_t rigpollen_check(const uint8_t *block, size_t block_length,
+                         const uint8_t *flash, size_t flash_length,
+                         size_t ram_length, uint32_t ram_start,
+                         uint32_t *answer, size_t answer_length);
+
+/* What rigpollen_process returns where the block has no such process. */
+#define RIGPOLLEN_NO_PROCESS 31u
+
+/* Where the words of a process lie, here and in the process list. */
+#define RIGPOLLEN_LIST_SATP  0 /* 2^31 + 2^22 * process + root's page number */
+#define RIGPOLLEN_LIST_ENTRY 1 /* entry point                                */
+#define RIGPOLLEN_LIST_STACK 2 /* stack pointer: 0x80000000, 0 for process 1 */
+#define RIGPOLLEN_LIST_WORDS 3
+
+/* The root table's page number in a satp word. */
+#define RIGPOLLEN_SATP_ROOT 0x003FFFFFu
+
+/*
+ * What a process starts with, where the block boots on RAM of this length and
+ * start: what the process list holds after the load, found without RAM.
+ *
+ *   process  the process's number, from 1 on; 1 is the kernel
+ *   words    gets satp, entry point and stack pointer, as many as fit; words
+ *            after the third stay as they are, and so does all of it where
+ *            the number is not 0
+ *
+ * Returns 0; else the number of the refusal, or RIGPOLLEN_NO_PROCESS where
+ * the block boots and has no such process.
+ */
+uint32_t rigpollen_process(const uint8_t *block, size_t block_length,
+                           const uint8_t *flash, size_t flash_length,
+                           size_t ram_length, uint32_t ram_start,
+                           uint32_t process,
+                           uint32_t *words, size_t words_length);
+
 /* ------------------------------------------------------------ the reader */
 
 /* What rigpollen_walk returns. */
@@ -205,15 +251,9 @@ uint32_t rigpollen_walk(const uint8_t *ram, size_t ram_length,
  * process that owns the page. Pages of sections belong to their process, all
  * other taken pages to process 1.
  *
- * The process list has three words for each process, from process 1 on:
+ * The process list has three words for each process, from process 1 on, as
+ * rigpollen_process gives them.
  */
-#define RIGPOLLEN_LIST_SATP  0 /* 2^31 + 2^22 * process + root's page number */
-#define RIGPOLLEN_LIST_ENTRY 1 /* entry point                                */
-#define RIGPOLLEN_LIST_STACK 2 /* stack pointer: 0x80000000, 0 for process 1 */
-#define RIGPOLLEN_LIST_WORDS 3
-
-/* The root table's page number in a satp word. */
-#define RIGPOLLEN_SATP_ROOT 0x003FFFFFu
 
 #ifdef __cplusplus
 }
