@@ -1,8 +1,8 @@
 use lib.ListN.{length-take}
 use native.Mathlib.Omega.{arith}
 use borrow.Author.Needs.{needs}
-use Rattle.examples.proofs.list.Statement.{statement}
-use Rattle.examples.proofs.list.Tie as tie
+use Rattle.worked_examples.proofs.list.Statement.{statement}
+use Rattle.worked_examples.proofs.list.Tie as tie
 
 large-buffer-requires : tie.Need-large-buffer-requires
 large-buffer-requires c κs = search needs
