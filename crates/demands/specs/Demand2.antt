@@ -166,11 +166,11 @@ module _ (x : Image) (r : Ram) (boot : boots x r ≡ true) where
       (small, sees-exactly q _ lo hi small .section q j k (inl refl) hj hk refl, section-in-flash x (ramArea r) ok q j lo hi hj k hk)
 
   -- the tracker's lower part is in the higher RAM page: page i is i RAM pages below the first, in every process
-  pub tracker-falls : (q i : ℕ) → 1 ≤ q → q ≤ processCount b → i < trackerPages b (ram .pages)
+  pub tracker-pages-descend : (q i : ℕ) → 1 ≤ q → q ≤ processCount b → i < trackerPages b (ram .pages)
       → walk (after x r) (rootOf b r q) (0xFFF4_0000 + 4096 * i)
       ≡ Page kernelWrite (record { 0 = ram .base + (ramPage b (ram .pages) (holds (trackerPage 0)) - i) })
   unfolding answerFor physPage
-  tracker-falls q i lo hi h =
+  tracker-pages-descend q i lo hi h =
       let N : ℕ = ram .pages in
       let T : ℕ = trackerPages b N in
       let two : T ≤ 2 = tracker-two x (ramArea r) ok in

@@ -12,6 +12,7 @@ use Rattle.types.specs.declared.PageRange.{PageRange}
 use Rattle.rules.specs.Block.{processCount, entryPoint}
 use Rattle.rules.specs.Order.{rootTable, tableUses, trackerPages}
 use Rattle.rules.specs.Contents.{stackPointer, processWord, processListByte}
+use Rattle.rules.specs.Entries.{satpOf}
 use Rattle.rules.specs.Load.{physPage, satpWord}
 use Rattle.order_laws.specs.Places.{trackerPlace, tableCount, rootPlace, tables-before-none, tables-before-next, table-uses-length, place-root, ram-page-at}
 use Rattle.order_laws.specs.Room.{needed-parts, tables-room}
@@ -43,7 +44,7 @@ module _ {b : List ℕ} {ram : PageRange} (f : Fits b ram) where
 
   -- satp, from the place of the root
   pub satp-is : (i : ℕ) {place root : ℕ} → i < processCount b → place ≡ rootAfter i → root ≡ ram .base + (ram .pages - 1 - place)
-      → 0x8000_0000 + 0x40_0000 * (i + 1) + root ≡ satpWord b ram (i + 1)
+      → satpOf (i + 1) root ≡ satpWord b ram (i + 1)
   unfolding satpWord physPage
   satp-is i h e r =
       let p = ram-page-at b (ram .pages) (rootTable (i + 1)) _ (place-root b (trackerPages b (ram .pages)) (i + 1) (omega arith) (omega arith)) in
@@ -65,7 +66,8 @@ pub three-words : (d₀ : List ℕ) (a : ℕ) {d₁ d₂ d₃ : List ℕ} {w₀ 
 three-words d₀ a e₁ e₂ e₃ p₀ p₁ p₂ = e₃ ∙ rw (e₂, e₁, p₀, p₁, p₂)
 
 -- a word of its own size is told as it is
-pub satp-small : (q root w : ℕ) → q ≤ 16 → root < 0x10_0000 → w ≡ (0x8000_0000 + 0x40_0000 * q + root) % 0x1_0000_0000 → w ≡ 0x8000_0000 + 0x40_0000 * q + root
+pub satp-small : (q root w : ℕ) → q ≤ 16 → root < 0x10_0000 → w ≡ satpOf q root % 0x1_0000_0000 → w ≡ satpOf q root
+unfolding satpOf
 satp-small q root w h l e = omega arith
 
 -- byte k of the list

@@ -5,6 +5,7 @@ ghost use lib.ListN.{length};
 ghost use Rattle.notation.specs.Lists.{tab};
 ghost use Rattle.rules.specs.Block.{entryPoint};
 ghost use Rattle.rules.specs.Order.{trackerPages};
+ghost use Rattle.rules.specs.Entries.{satpOf};
 ghost use Rattle.rules.specs.Contents.{stackPointer, processListByte};
 ghost use Rattle.rules.specs.Load.{satpWord};
 ghost use Rattle.word_stores.specs.Words.{withWord};
@@ -20,7 +21,7 @@ use types::PhysPage;
 fn put_process(page: &mut [u8], block: &[u8], q: u32, root: PhysPage)
     requires { ⌜ (1 ≤ q) × (q ≤ 16) × (root .0 < 0x10_0000) ⌝ }
     ensures { λ _. ⌜ now (page .exit) ≡ withWord (withWord (withWord (now (page .entry))
-        (12 * (q - 1)) (0x8000_0000 + 0x40_0000 * q + root .0))
+        (12 * (q - 1)) (satpOf q (root .0)))
         (12 * (q - 1) + 4) (entryPoint (now (block .entry)) q))
         (12 * (q - 1) + 8) (stackPointer q) ⌝ }
 {

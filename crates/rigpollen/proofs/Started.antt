@@ -17,6 +17,7 @@ use Rattle.rules.specs.Lent.{Image, pagesIn}
 use Rattle.rules.specs.Block.{processCount, entryPoint}
 use Rattle.rules.specs.Order.{rootTable, ramPage}
 use Rattle.rules.specs.Refusals.{verdict}
+use Rattle.rules.specs.Entries.{satpOf}
 use Rattle.rules.specs.Contents.{stackPointer, processWord}
 use Rattle.rules.specs.Load.{physPage, satpWord}
 use Rattle.laws.specs.Choice.{and-right, choose-yes, choose-no}
@@ -27,7 +28,7 @@ use Rattle.order_roots.specs.Roots.{isProcess, rootFound}
 use Rattle.rigpollen.specs.Words.{startWords, processNumber, processWords}
 
 -- three words put one after the other
-pub start-told : (b : List ℕ) (q P s i p : ℕ) (a₀ a₁ a₂ a₃ : List ℕ) → s ≡ (0x8000_0000 + 0x40_0000 * q + P) % 0x1_0000_0000 → i ≡ entryPoint b q → p ≡ stackPointer q
+pub start-told : (b : List ℕ) (q P s i p : ℕ) (a₀ a₁ a₂ a₃ : List ℕ) → s ≡ satpOf q P % 0x1_0000_0000 → i ≡ entryPoint b q → p ≡ stackPointer q
     → a₁ ≡ set a₀ 0 s → a₂ ≡ set a₁ 1 i → a₃ ≡ set a₂ 2 p → a₃ ≡ sets a₀ 0 (startWords b q P)
 unfolding startWords
 start-told b q P s i p a₀ a₁ a₂ a₃ es ei ep e₁ e₂ e₃ = e₃ ∙ rw (e₂, e₁, es, ei, ep)
@@ -68,8 +69,8 @@ module _ (x : Image) (ram : Area) (v : Verdict) (e : v ≡ verdict x ram) (q : �
 
   -- the words are of 32 bits
   satp-word : v .number ≡ 0 → isProcess (x .block) q ≡ true
-      → (0x8000_0000 + 0x40_0000 * q + physPage (x .block) (pagesIn ram) (rootTable q)) % 0x1_0000_0000 ≡ satpWord (x .block) (pagesIn ram) q
-  unfolding satpWord physPage ramPage isProcess
+      → satpOf q (physPage (x .block) (pagesIn ram) (rootTable q)) % 0x1_0000_0000 ≡ satpWord (x .block) (pagesIn ram) q
+  unfolding satpOf satpWord physPage ramPage isProcess
   satp-word z c =
       let f : Fits (x .block) (pagesIn ram) = accepted x ram v e z .room in
       let h : q ≤ processCount (x .block) = leb-true _ _ (and-right (leb 1 q) _ c) in

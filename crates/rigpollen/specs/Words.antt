@@ -11,6 +11,7 @@ use Rattle.types.specs.declared.Entry.the-variants.{Absent, Reserved, Pointer, 
 use Rattle.rules.specs.Lent.{Image, pagesIn}
 use Rattle.rules.specs.Block.{entryPoint}
 use Rattle.rules.specs.Refusals.{verdict}
+use Rattle.rules.specs.Entries.{satpOf}
 use Rattle.rules.specs.Contents.{stackPointer, processWord}
 use Rattle.rules.specs.Load.{satpWord}
 use Rattle.order_roots.specs.Roots.{isProcess}
@@ -21,7 +22,7 @@ answerWords a = a .number ∷ a .place ∷ a .taken ∷ a .free ∷ a .tracker �
 
 -- the words of process q with its root at physical page P: satp, entry point, stack pointer
 unfoldable pub startWords : List ℕ → ℕ → ℕ → List ℕ
-startWords b q P = (0x8000_0000 + 0x40_0000 * q + P) % 0x1_0000_0000 ∷ entryPoint b q ∷ stackPointer q ∷ []
+startWords b q P = satpOf q P % 0x1_0000_0000 ∷ entryPoint b q ∷ stackPointer q ∷ []
 
 -- what a process starts with, for RAM that lies here: 0, the refusal's number, or 31 where there is no process q
 unfoldable pub processNumber : Image → Area → ℕ → ℕ

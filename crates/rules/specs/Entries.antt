@@ -51,7 +51,12 @@ decode e =
     choose (eqb (e % 2) 0) (choose (eqb e 22) Reserved Absent)
     (choose (eqb (e / 2 % 8) 0) (Pointer (record { 0 = e / 1024 })) (Page (rightsIn e) (record { 0 = e / 1024 })))
 
+-- THE REGISTER satp
+-- mode Sv32, the address space's number (ASID), which is that of its process q, and the physical page P of its root table
+unfoldable pub satpOf : ℕ → ℕ → ℕ
+satpOf q P = 0x8000_0000 + 0x40_0000 * q + P
+
 -- all definitions of this file, to be unfolded as one
 unfoldable pub entry-rules : Unit {0}
-unfolding absentEntry reservedEntry pointerEntry pageEntry rightsIn decode
+unfolding absentEntry reservedEntry pointerEntry pageEntry rightsIn decode satpOf
 entry-rules = tt

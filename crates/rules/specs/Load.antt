@@ -15,6 +15,7 @@ use Rattle.types.specs.declared.Answer.{Answer}
 use Rattle.rules.specs.Lent.{Image, Ram, ramOf, ramArea, pagesIn}
 use Rattle.rules.specs.Order.{Use, top, holds, rootTable, leafTable, trackerPages, pagesNeeded, freePages, useOf, ramPage}
 use Rattle.rules.specs.Refusals.{verdict}
+use Rattle.rules.specs.Entries.{satpOf}
 use Rattle.rules.specs.Tables.{rootEntry, leafEntry}
 use Rattle.rules.specs.Contents.{tracker, dataByte}
 
@@ -22,9 +23,9 @@ use Rattle.rules.specs.Contents.{tracker, dataByte}
 unfoldable pub physPage : List ℕ → PageRange → Use → ℕ
 physPage b ram u = ram .base + ramPage b (ram .pages) u
 
--- the satp word of process q: mode Sv32, its number as address space (ASID), its root's physical page
+-- the satp word of process q
 unfoldable pub satpWord : List ℕ → PageRange → ℕ → ℕ
-satpWord b ram q = 0x8000_0000 + 0x40_0000 * q + physPage b ram (rootTable q)
+satpWord b ram q = satpOf q (physPage b ram (rootTable q))
 
 -- byte k of a table: 1,024 entries of four bytes
 unfoldable pub tableByte : (ℕ → ℕ) → ℕ → ℕ

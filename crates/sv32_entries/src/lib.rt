@@ -4,7 +4,7 @@ use types::PhysPage;
 use types::Rights;
 ghost use mathlib.Core.Path.{_≡_};
 ghost use Prim.Native.Nat.{_+_, _*_, _%_};
-ghost use Rattle.rules.specs.Entries.{pointerEntry, pageEntry, decode};
+ghost use Rattle.rules.specs.Entries.{pointerEntry, pageEntry, decode, satpOf};
 
 // The flags of an entry.
 const VALID: u32 = 1;
@@ -75,7 +75,7 @@ pub fn decode(e: u32) -> Entry
 
 // The satp word of an address space: mode Sv32, process q as its number (ASID), the page of its root table. Modulo 2^32.
 pub fn satp_word(q: u32, root: PhysPage) -> u32
-    ensures { λ r. ⌜ r ≡ (0x8000_0000 + 0x40_0000 * q + root .0) % 0x1_0000_0000 ⌝ }
+    ensures { λ r. ⌜ r ≡ satpOf q (root .0) % 0x1_0000_0000 ⌝ }
 {
     ((0x8000_0000 + 0x40_0000 * (q as u64) + root.0 as u64) % 0x1_0000_0000) as u32
 }
