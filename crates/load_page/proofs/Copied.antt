@@ -1,4 +1,4 @@
--- A page cleared, and then copied into.
+-- A page that has a copy, and is zero around it.
 use mathlib.Core.Path.{_≡_, sym, _∙_}
 use mathlib.Core.Bool.{true, false, _&&_}
 use mathlib.Core.List.{List}
@@ -23,7 +23,7 @@ use Rattle.block_records.specs.Read.{IsSection}
 use Rattle.stores.specs.Writes.{copied}
 use Rattle.stores.proofs.Written.{copied-written}
 
--- CLEARED, THEN COPIED
+-- A COPY AND ZEROS
 abbrev cleared : ℕ → List ℕ
 cleared n = tab n (λ k. 0)
 
@@ -41,8 +41,8 @@ copied-cleared n at s =
       ])
     ])
 
-pub block-page-is : (m : ℕ) {p q : List ℕ} (b : List ℕ) → p ≡ cleared m → q ≡ copied p 0 b → q ≡ tab m (λ k. getD b k 0)
-block-page-is m b ep eq = eq ∙ rw ep (copied-cleared m 0 b ∙ tab-same m _ _ 0 (λ k h. choose-yes _ _ (le-leb 0 k (omega arith)) ∙ rw sub-zero))
+pub block-page-is : (m : ℕ) {q : List ℕ} (b : List ℕ) → q ≡ copied (cleared m) 0 b → q ≡ tab m (λ k. getD b k 0)
+block-page-is m b eq = eq ∙ copied-cleared m 0 b ∙ tab-same m _ _ 0 (λ k h. choose-yes _ _ (le-leb 0 k (omega arith)) ∙ rw sub-zero)
 
 -- A SECTION'S PAGE
 -- byte x of the first n of some bytes
@@ -70,15 +70,14 @@ pub no-copy-page-is : (m : ℕ) {b p : List ℕ} {n : ℕ} {r : Section} (f : Li
 unfolding sectionPageByte
 no-copy-page-is m f i s c ep = ep ∙ tab-same m _ _ 0 (λ k h. sym (choose-yes _ _ (rw (s .no-copy) at c)))
 
-pub section-page-is : (m : ℕ) {b p q t u : List ℕ} {n at skip : ℕ} {r : Section} (f : List ℕ) (i : ℕ) → IsSection b n r → r .«no_copy» ≡ false
-    → p ≡ cleared m
+pub section-page-is : (m : ℕ) {b q t u : List ℕ} {n at skip : ℕ} {r : Section} (f : List ℕ) (i : ℕ) → IsSection b n r → r .«no_copy» ≡ false
     → t ≡ take (r .size) (drop (r .«flash_offset») f)
     → skip ≡ 4096 * i - r .address % 4096
     → u ≡ drop skip t
     → at ≡ r .address % 4096 - 4096 * i
-    → q ≡ copied p at u
+    → q ≡ copied (cleared m) at u
     → q ≡ tab m (sectionPageByte (imageOf b f) n i)
 unfolding sectionPageByte
-section-page-is m {b} {n = n} f i s c ep et es eu ea eq =
-    eq ∙ rw (ep, eu, et, es, ea, s .address-is, s .size-is, s .flash-offset) (copied-cleared m _ _ ∙ tab-same m _ _ 0 (λ k h.
+section-page-is m {b} {n = n} f i s c et es eu ea eq =
+    eq ∙ rw (eu, et, es, ea, s .address-is, s .size-is, s .flash-offset) (copied-cleared m _ _ ∙ tab-same m _ _ 0 (λ k h.
     page-byte f (flashOffset b n) (size b n) (address b n % 4096) (4096 * i) k ∙ sym (choose-no _ _ (rw (s .no-copy) at c))))

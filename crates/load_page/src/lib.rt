@@ -11,8 +11,8 @@ pub fn section_page(page: &mut [u8], block: &[u8], flash: &[u8], n: usize, i: u3
     ensures { λ _. ⌜ now (page .exit) ≡ tab (length (now (page .entry))) (sectionPageByte (imageOf (now (block .entry)) (now (flash .entry))) n i) ⌝ }
 {
     let section = block_records::read_section(block, n);
-    stores::clear(page);
     if section.no_copy {
+        stores::clear(page);
         return;
     }
     let offset = section.address as usize % 4096;
@@ -20,13 +20,12 @@ pub fn section_page(page: &mut [u8], block: &[u8], flash: &[u8], n: usize, i: u3
     let bytes = slices::part(flash, section.flash_offset as usize, section.size as usize);
     // In the first page the copy starts at the offset; in a later one it skips the bytes of the pages before.
     let rest = slices::tail(bytes, numbers::minus(first, offset));
-    stores::copy_in(page, numbers::minus(offset, first), rest);
+    stores::copy_and_clear(page, numbers::minus(offset, first), rest);
 }
 
 // The copy of the block, as much of it as fits, and zero after it.
 pub fn block_page(page: &mut [u8], block: &[u8])
     ensures { λ _. ⌜ now (page .exit) ≡ tab (length (now (page .entry))) (λ k. getD (now (block .entry)) k 0) ⌝ }
 {
-    stores::clear(page);
-    stores::copy_in(page, 0, block);
+    stores::copy_and_clear(page, 0, block);
 }

@@ -5,15 +5,14 @@ use mathlib.Core.Bool.{true, false}
 use mathlib.Core.List.{List, [], _∷_}
 use Prim.Native.Nat.{ℕ, zero, suc, _+_, _-_, _*_, _/_, _%_, _≤_, _<_, min}
 use native.Mathlib.Nat.{mod-eq-of-lt}
-use native.Mathlib.Decide.{decLt, ℕ-discrete}
+use native.Mathlib.Decide.{ℕ-discrete}
 use native.Mathlib.Omega.{arith}
 use lib.ListN.{length, getD, set, replicate}
 use lib.Seq.{getD-set-same, getD-set-other}
-use lib.Dec.{ltb}
 use borrow.Author.Tests.{eq-eqb, ne-eqb, lt-ltb}
 use borrow.Rule.Slice.PartMut.{putMid, midOf, mid-len}
 use Rattle.notation.specs.Choice.{choose}
-use Rattle.notation.specs.Lists.{tab, gather, sum}
+use Rattle.notation.specs.Lists.{tab, gather}
 use Rattle.types.specs.declared.PageRange.{PageRange}
 use Rattle.rules.specs.Block.{processCount}
 use Rattle.rules.specs.Order.{Use, rootTable, leafTable, hasLeaf, tableUses, allTables, trackerPages, ramPage}
@@ -21,19 +20,20 @@ use Rattle.rules.specs.Entries.{pointerEntry, absentEntry}
 use Rattle.rules.specs.Tables.{rootEntry, leafEntry}
 use Rattle.rules.specs.Load.{physPage, tableByte, pageByte}
 use Rattle.laws.specs.Choice.{by-test, choose-yes, choose-no}
-use Rattle.laws.specs.Lists.{tab-length, tab-get, tab-same}
-use Rattle.laws.specs.Counts.{one, one-yes, one-no, sum-at, sum-same, sum-zero}
+use Rattle.laws.specs.Lists.{tab-length, tab-get, tab-by, tab-same}
+use Rattle.laws.specs.Counts.{one, one-yes, one-no, sum-at, sum-zero}
 use Rattle.word_stores.specs.Words.{withWords}
-use Rattle.order_leaves.specs.Marks.{leafMarks}
-use Rattle.sv32_tables.specs.Filled.{marked, markedBelow, leavesPointed}
+use Rattle.order_leaves.specs.Leaves.{First}
+use Rattle.order_leaves.proofs.Leaves.{gather-first}
+use Rattle.stores.proofs.Written.{Written, written-none, written-more, written-skip}
 use Rattle.order_laws.specs.Uses.{kernel-leaf}
-use Rattle.order_laws.specs.Places.{leavesBelow, rootPlace, tableCount, place-leaf, ram-page-at, tables-length, tables-before-none}
+use Rattle.order_laws.specs.Places.{leavesBelow, leaves-below-none, leaves-below-next, rootPlace, tableCount, place-leaf, ram-page-at, tables-length, tables-before-none}
 use Rattle.order_laws.specs.Room.{tables-room}
 use Rattle.writing.specs.Pages.{put, put-part, put-same}
 use Rattle.writing.specs.Uses.{wrote-page}
-use Rattle.writing.specs.Loaded.{content, WroteAny, wrote-any, any-none, any-then}
+use Rattle.writing.specs.Loaded.{content, WroteAny, wrote-any, any-then}
 use Rattle.accepted.specs.Fits.{Fits}
-use Rattle.loader.specs.TablePages.{leafUses, LeavesAt}
+use Rattle.loader.specs.TablePages.{leafUses, leafPointer, LeavesAt}
 
 -- a page of at most 4,096 bytes with 1,024 words stored in it
 table-stored : (d ws : List ℕ) → length ws ≡ 1024 → length d ≤ 4096 → withWords d ws ≡ tab (length d) (tableByte (λ i. getD ws i 0))
@@ -63,39 +63,63 @@ pub leaf-page : (b : List ℕ) (ram : PageRange) (q m : ℕ) (r e : List ℕ) {r
     → r′ ≡ put r k (tableByte (λ i. getD e i 0)) → r′ ≡ put r k (tableByte (leafEntry b (trackerPages b (ram .pages)) (physPage b ram) q m))
 leaf-page b ram q m r e k t p = p ∙ table-put r k _ _ (λ i h. rw t (tab-get 1024 _ i 0 h))
 
-mark-of : (b : List ℕ) (q m : ℕ) → m < 1024 → getD (leafMarks b q 1024) m 0 ≡ one (hasLeaf b q m)
-unfolding leafMarks
-mark-of b q m h = tab-get 1024 _ m 0 h
-
-pub is-marked : (b : List ℕ) (q m : ℕ) {mark : ℕ} → m < 1024 → mark ≡ getD (leafMarks b q 1024) m 0 → mark ≢ 0 → hasLeaf b q m ≡ true
-is-marked b q m h e n =
-    by-test (λ c. one c ≢ 0 → c ≡ true) (hasLeaf b q m) (λ _ _. refl) (λ _ z. absurd (z (one-no refl))) (λ z. n (e ∙ mark-of b q m h ∙ z))
-
-not-marked : (b : List ℕ) (q m : ℕ) {mark : ℕ} → m < 1024 → mark ≡ getD (leafMarks b q 1024) m 0 → mark ≡ 0 → hasLeaf b q m ≡ false
-not-marked b q m h e n =
-    by-test (λ c. one c ≡ 0 → c ≡ false) (hasLeaf b q m) (λ _ z. absurd (omega (arith, one-yes {c = true} refl))) (λ _ _. refl)
-    (sym (mark-of b q m h) ∙ sym e ∙ n)
-
-pub no-leaf : (b : List ℕ) (ram : PageRange) (q m : ℕ) {mark : ℕ} (r : List ℕ) (n : ℕ) → m < 1024 → mark ≡ getD (leafMarks b q 1024) m 0 → mark ≡ 0
-    → WroteAny b ram (leafUses b q m) r n r n
-unfolding leafUses choose
-no-leaf b ram q m r n h e z = rw (not-marked b q m h e z) (any-none r n)
-
 pub one-leaf : (b : List ℕ) (ram : PageRange) (q m : ℕ) (r : List ℕ) (n : ℕ) {r′ : List ℕ} {n′ k : ℕ} → hasLeaf b q m ≡ true
     → n′ ≡ n - 1 → k ≡ n - 1 → r′ ≡ put r k (tableByte (leafEntry b (trackerPages b (ram .pages)) (physPage b ram) q m))
     → WroteAny b ram (leafUses b q m) r n r′ n′
 unfolding leafUses choose content pageByte
 one-leaf b ram q m r n e l k p = rw e (wrote-any (λ flash. wrote-page (leafTable q m) _ l k p (λ o _. refl)))
 
--- THE ROOT TABLE
-marked-is : (b : List ℕ) (q m : ℕ) → m < 1024 → marked (leafMarks b q 1024) m ≡ hasLeaf b q m
-unfolding marked
-marked-is b q m h = rw (mark-of b q m h) (by-test (λ c. ltb 0 (one c) ≡ c) (hasLeaf b q m)
-    (λ _. rw (one-yes {c = true} refl)) (λ _. rw (one-no {c = false} refl)))
+-- FROM ONE LEAF TO THE NEXT
+-- a leaf table after those below root slot m, and none up to the next
+pub next-leaves : (b : List ℕ) (ram : PageRange) (q : ℕ) {m r : ℕ} {d₀ : List ℕ} {n₀ : ℕ} {d : List ℕ} {n : ℕ} → First (hasLeaf b q) m r → m ≤ 1024
+    → WroteAny b ram (gather m (leafUses b q)) d₀ n₀ d n → WroteAny b ram (gather r (leafUses b q)) d₀ n₀ d n
+unfolding leafUses
+next-leaves b ram q f h w = rw (gather-first (leafUses b q) f h (λ k e. choose-no _ _ e)) w
 
-below-is : (b : List ℕ) (q m : ℕ) → m < 1024 → markedBelow (leafMarks b q 1024) m ≡ leavesBelow b q m
-unfolding markedBelow leavesBelow
-below-is b q m h = sum-same m _ _ (λ k l. rw (marked-is b q k (omega arith)))
+-- THE ROOT TABLE
+-- the slots below m point to their leaf tables, and `page` is that of the next one, for slot m
+pub record Pointing (b : List ℕ) (q first : ℕ) (d₀ d : List ℕ) (page m : ℕ) : Type 0 where
+  pub inside : m ≤ 1024
+  pub here : m < 1024 → hasLeaf b q m ≡ true
+  pub next : page ≡ first - leavesBelow b q m
+  pub done : Written (leafPointer b q first) 0 m d₀ d
+
+-- no leaves from slot m up to the next one's
+below-skip : (b : List ℕ) (q a d : ℕ) → ((k : ℕ) → a ≤ k → k < a + d → hasLeaf b q k ≡ false) → leavesBelow b q (a + d) ≡ leavesBelow b q a
+below-skip b q a zero h = let e : a + 0 ≡ a = omega arith in rw e
+below-skip b q a (suc d) h =
+    let e : a + suc d ≡ a + d + 1 = omega arith in
+    rw e (omega (arith, leaves-below-next b q (a + d), one-no (h (a + d) (omega arith) (omega arith)), below-skip b q a d (λ k l m. h k l (omega arith))))
+
+skip-to : (b : List ℕ) (q first : ℕ) {d₀ d : List ℕ} {page m r : ℕ} → d₀ ≡ tab 1024 (λ i. 0) → m ≤ 1024 → page ≡ first - leavesBelow b q m
+    → Written (leafPointer b q first) 0 m d₀ d → First (hasLeaf b q) m r → Pointing b q first d₀ d page r
+unfolding leafPointer
+skip-to b q first {d₀} {d} {page} {m} {r} z h e w f =
+    let s : m + (r - m) ≡ r = omega (arith, f .low) in
+    let n : leavesBelow b q r ≡ leavesBelow b q m = rw s at (below-skip b q m (r - m) (λ k l i. f .before k l (omega arith))) in
+    record {
+      inside = f .high;
+      here = f .here;
+      next = e ∙ rw n;
+      done = written-skip w (omega (arith, f .low)) (λ k l i. choose-no _ _ (f .before k l i) ∙ sym (rw z (tab-get {A = ℕ} 1024 (λ i. 0) k 0 (omega (arith, f .high)))));
+    }
+
+pub pointing-start : (b : List ℕ) (q first : ℕ) {d : List ℕ} {m : ℕ} → d ≡ tab 1024 (λ i. 0) → First (hasLeaf b q) 0 m → Pointing b q first d d first m
+pointing-start b q first {d} z f = skip-to b q first z (omega arith) (rw (leaves-below-none b q) (omega arith)) (written-none _ 0 0 d refl) f
+
+pub pointing-next : (b : List ℕ) (q first : ℕ) {d₀ d d′ : List ℕ} {page page′ m r : ℕ} → Pointing b q first d₀ d page m → d₀ ≡ tab 1024 (λ i. 0) → m < 1024
+    → d′ ≡ set d m (pointerEntry (page % 0x40_0000)) → page′ ≡ page - 1 → First (hasLeaf b q) (m + 1) r → Pointing b q first d₀ d′ page′ r
+unfolding leafPointer
+pointing-next b q first {m = m} p z h e ep f = skip-to b q first z (omega arith)
+    (omega (arith, p .next, leaves-below-next b q m, one-yes (p .here h)))
+    (rw e (written-more (p .done) (m + 1) refl (rw (p .next) (sym (choose-yes _ _ (p .here h)))) (omega arith)))
+    f
+
+pub pointing-is : (b : List ℕ) (q first : ℕ) {d₀ d : List ℕ} {page m : ℕ} → Pointing b q first d₀ d page m → d₀ ≡ tab 1024 (λ i. 0) → 1024 ≤ m
+    → d ≡ tab 1024 (leafPointer b q first)
+pointing-is b q first {d₀} {d} p z h =
+    let n : length d₀ ≡ 1024 = ap length z ∙ tab-length 1024 _ in
+    tab-by 1024 _ 0 d (p .done .size ∙ n) (λ k l. p .done .inside k (omega arith) (omega arith) (omega arith))
 
 root-leaf : (b : List ℕ) (ram : PageRange) (q first kernel m : ℕ) → LeavesAt b ram q first kernel → m < 1024
     → choose (hasLeaf b q m) (pointerEntry ((first - leavesBelow b q m) % 0x40_0000)) 0 ≡ choose (hasLeaf b q m) (pointerEntry (physPage b ram (leafTable q m))) absentEntry
@@ -109,21 +133,19 @@ root-leaf b ram q first kernel m at h = by-test (λ c. hasLeaf b q m ≡ c
     (λ _ e. refl)
     refl
 
-pub root-page : (b : List ℕ) (ram : PageRange) (q : ℕ) (r marks e e₁ e₂ : List ℕ) {r′ : List ℕ} (k first kernel : ℕ)
-    → LeavesAt b ram q first kernel → marks ≡ leafMarks b q 1024 → e ≡ tab 1024 (λ i. 0) → e₁ ≡ leavesPointed e marks first
+pub root-page : (b : List ℕ) (ram : PageRange) (q : ℕ) (r e₁ e₂ : List ℕ) {r′ : List ℕ} (k first kernel : ℕ)
+    → LeavesAt b ram q first kernel → e₁ ≡ tab 1024 (leafPointer b q first)
     → e₂ ≡ set e₁ 1023 (pointerEntry (kernel % 0x40_0000))
     → r′ ≡ put r k (tableByte (λ i. getD e₂ i 0)) → r′ ≡ put r k (tableByte (rootEntry b (physPage b ram) q))
-unfolding rootEntry leavesPointed
-root-page b ram q r marks e e₁ e₂ k first kernel at em ez e1 e2 p =
-    let n : length e ≡ 1024 = ap length ez ∙ tab-length 1024 _ in
-    let n₁ : length e₁ ≡ 1024 = ap length e1 ∙ tab-length (length e) _ ∙ n in
+unfolding rootEntry leafPointer
+root-page b ram q r e₁ e₂ k first kernel at e1 e2 p =
+    let n₁ : length e₁ ≡ 1024 = ap length e1 ∙ tab-length 1024 _ in
     let l : kernel < 0x40_0000 = at .kernel-small in
     p ∙ table-put r k _ _ (λ m h. elim (ℕ-discrete m 1023) [
       | yes z ↦ rw (e2, z) (getD-set-same e₁ 1023 _ 0 (omega arith) ∙ rw (mod-eq-of-lt l, at .kernel-leaf) (sym (choose-yes _ _ (eq-eqb 1023 1023 refl))))
       | no z ↦
-          rw e2 (getD-set-other e₁ 1023 m _ 0 z ∙ rw e1 (tab-get (length e) _ m 0 (omega arith)
-          ∙ rw (em, marked-is b q m h, below-is b q m h, ez, tab-get {A = ℕ} 1024 (λ i. 0) m 0 h)
-          (root-leaf b ram q first kernel m at h ∙ sym (choose-no _ _ (ne-eqb m 1023 z)))))
+          rw e2 (getD-set-other e₁ 1023 m _ 0 z ∙ rw e1 (tab-get 1024 _ m 0 h
+          ∙ root-leaf b ram q first kernel m at h ∙ sym (choose-no _ _ (ne-eqb m 1023 z))))
     ])
 
 -- ROOM FOR THE TABLES

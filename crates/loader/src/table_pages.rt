@@ -3,20 +3,20 @@ ghost use mathlib.Core.Path.{_≡_};
 ghost use mathlib.Core.Bool.{true};
 ghost use Prim.Native.Nat.{_-_, _≤_, _<_};
 ghost use lib.ListN.{length, getD};
-ghost use Rattle.notation.specs.Lists.{gather};
+ghost use Rattle.notation.specs.Lists.{tab, gather};
 ghost use Rattle.rules.specs.Block.{processCount};
 ghost use Rattle.rules.specs.Order.{hasLeaf, tableUses, allTables, trackerPages, leafTable};
 ghost use Rattle.rules.specs.Tables.{rootEntry, leafEntry};
 ghost use Rattle.rules.specs.Load.{physPage, tableByte};
 ghost use Rattle.order_laws.specs.Places.{rootPlace};
-ghost use Rattle.order_leaves.specs.Marks.{leafMarks};
 ghost use Rattle.writing.specs.Pages.{put};
 ghost use Rattle.writing.specs.Loaded.{WroteAny};
 ghost use Rattle.accepted.specs.Fits.{Fits};
-ghost use Rattle.loader.specs.TablePages.{leafUses, LeavesAt};
+ghost use Rattle.loader.specs.TablePages.{leafUses, leafPointer, LeavesAt};
 use crate::leaf_entries::leaf_entries;
 use page_allocator::PageAllocator;
 use page_allocator::physical;
+use types::KERNEL_SLOT;
 use types::PageRange;
 use types::PhysPage;
 use types::RamPage;
@@ -33,24 +33,37 @@ fn store(ram: &mut [u8], k: RamPage, entries: &[u32])
     word_stores::words_in(page, entries);
 }
 
-// The root table of process q into RAM page k. Its leaf tables, for the marked root slots, lie from physical page `first`
-// downwards; the last entry points to the kernel's leaf table.
+// Points a root table, whose entries are all absent, to the leaf tables of process q, which lie from physical page `first` downwards.
+fn point_to_leaves(entries: &mut [u32], block: &[u8], q: u32, first: PhysPage)
+    requires { ⌜ now entries ≡ tab 1024 (λ i. 0) ⌝ }
+    ensures { λ _. ⌜ now (entries .exit) ≡ tab 1024 (leafPointer (now (block .entry)) q (first .0)) ⌝ }
+{
+    let mut page = first.0 as usize;
+    let mut m = order_leaves::next_leaf(block, q, 0);
+    while m < TABLE_ENTRIES {
+        sv32_tables::point_to_leaf(entries, m, PhysPage(page as u32));
+        page = numbers::minus(page, 1);
+        m = order_leaves::next_leaf(block, q, m + 1);
+    }
+}
+
+// The root table of process q into RAM page k. Its leaf tables lie from physical page `first` downwards; the last entry points
+// to the kernel's leaf table.
 fn load_root(
     ram: &mut [u8],
     k: RamPage,
     block: &[u8],
     range: PageRange,
     q: u32,
-    marks: &[u8],
     first: PhysPage,
     kernel_leaf: PhysPage,
 )
-    requires { ⌜ LeavesAt (now block) range q (first .0) («kernel_leaf» .0) × (now marks ≡ leafMarks (now block) q 1024) ⌝ }
+    requires { ⌜ LeavesAt (now block) range q (first .0) («kernel_leaf» .0) ⌝ }
     ensures { λ _. ⌜ now (ram .exit) ≡ put (now (ram .entry)) (k .0) (tableByte (rootEntry (now (block .entry)) (physPage (now (block .entry)) range) q)) ⌝ }
 {
     let mut entries = [0u32; 1024];
-    sv32_tables::point_to_leaves(&mut entries, marks, first);
-    sv32_tables::point_to_kernel(&mut entries, kernel_leaf);
+    point_to_leaves(&mut entries, block, q, first);
+    sv32_tables::point_to_leaf(&mut entries, KERNEL_SLOT, kernel_leaf);
     store(ram, k, &entries);
 }
 
@@ -64,45 +77,24 @@ fn load_leaf(ram: &mut [u8], k: RamPage, block: &[u8], range: PageRange, q: u32,
     store(ram, k, &entries);
 }
 
-// The leaf table for root slot m where it is marked, in the next page.
-fn load_marked(
-    ram: &mut [u8],
-    block: &[u8],
-    range: PageRange,
-    q: u32,
-    m: u32,
-    mark: u8,
-    from: PageAllocator,
-) -> PageAllocator
-    requires { ⌜ Fits (now block) range × (1 ≤ q) × (q ≤ processCount (now block)) × (m < 1024) × (mark ≡ getD (leafMarks (now block) q 1024) m 0) ⌝ }
-    ensures { λ r. ⌜ WroteAny (now (block .entry)) range (leafUses (now (block .entry)) q m) (now (ram .entry)) (from .left) (now (ram .exit)) (r .left) ⌝ }
-{
-    if mark == 0 {
-        return from;
-    }
-    let got = from.allocate();
-    load_leaf(ram, got.page, block, range, q, m);
-    got.rest
-}
-
 // The leaf tables of process q, rising.
 fn load_leaves(
     ram: &mut [u8],
     block: &[u8],
     range: PageRange,
     q: u32,
-    marks: &[u8],
     from: PageAllocator,
 ) -> PageAllocator
-    requires { ⌜ Fits (now block) range × (1 ≤ q) × (q ≤ processCount (now block)) × (now marks ≡ leafMarks (now block) q 1024) ⌝ }
+    requires { ⌜ Fits (now block) range × (1 ≤ q) × (q ≤ processCount (now block)) ⌝ }
     ensures { λ r. ⌜ WroteAny (now (block .entry)) range (gather 1024 (leafUses (now (block .entry)) q)) (now (ram .entry)) (from .left) (now (ram .exit)) (r .left) ⌝ }
 {
     let mut next = from;
-    let mut m: u32 = 0;
+    let mut m = order_leaves::next_leaf(block, q, 0);
     while m < TABLE_ENTRIES {
-        let mark = slices::byte(marks, m as usize);
-        next = load_marked(ram, block, range, q, m, mark, next);
-        m += 1;
+        let got = next.allocate();
+        load_leaf(ram, got.page, block, range, q, m);
+        next = got.rest;
+        m = order_leaves::next_leaf(block, q, m + 1);
     }
     next
 }
@@ -120,14 +112,12 @@ fn load_process_tables(
         × (from .left ≡ range .pages - rootPlace (now block) (trackerPages (now block) (range .pages)) q) ⌝ }
     ensures { λ r. ⌜ WroteAny (now (block .entry)) range (tableUses (now (block .entry)) q) (now (ram .entry)) (from .left) (now (ram .exit)) (r .left) ⌝ }
 {
-    let mut marks = [0u8; 1024];
-    order_leaves::leaf_marks(block, q, &mut marks);
     let root = from.allocate();
     // The page that the first leaf table gets.
     let leaf = root.rest.allocate();
     let first = physical(range, leaf.page);
-    load_root(ram, root.page, block, range, q, &marks, first, kernel_leaf);
-    load_leaves(ram, block, range, q, &marks, root.rest)
+    load_root(ram, root.page, block, range, q, first, kernel_leaf);
+    load_leaves(ram, block, range, q, root.rest)
 }
 
 // The tables of all processes, the kernel's first.

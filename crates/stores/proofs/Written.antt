@@ -3,11 +3,12 @@ use mathlib.Core.Path.{_≡_, refl, sym, _∙_}
 use mathlib.Core.Bool.{Bool, true, false, _&&_}
 use mathlib.Core.List.{List}
 use Prim.Native.Nat.{ℕ, _+_, _-_, _≤_, _<_, min, max}
+use native.Mathlib.Nat.{sub-zero}
 use native.Mathlib.Decide.{decLt, ℕ-discrete}
 use native.Mathlib.Omega.{arith}
 use lib.Dec.{leb, ltb}
-use lib.ListN.{length, getD, set, length-set, List·getD-eq-default}
-use lib.Seq.{getD-set-same, getD-set-other}
+use lib.ListN.{length, getD, set, take, drop, length-set, length-take, length-drop, List·getD-eq-default}
+use lib.Seq.{getD-set-same, getD-set-other, getD-take, getD-drop, take-length, length-take-le, ext-getD}
 use borrow.Author.Tests.{lt-ltb, le-ltb, le-leb, lt-leb}
 use Rattle.notation.specs.Choice.{choose}
 use Rattle.notation.specs.Lists.{tab}
@@ -47,6 +48,18 @@ written-then {f} {a} {b} {c} {d₀} {d} {e} v w h l = record {
   ];
   below = λ k m. w .below k (omega arith) ∙ v .below k m;
   above = λ k m. w .above k m ∙ v .above k (omega arith);
+}
+
+-- the next elements are as the rule has them
+pub written-skip : {f : ℕ → ℕ} {a b c : ℕ} {d₀ d : List ℕ} → Written f a b d₀ d → b ≤ c → ((k : ℕ) → b ≤ k → k < c → f k ≡ getD d₀ k 0) → Written f a c d₀ d
+written-skip {b = b} w h e = record {
+  size = w .size;
+  inside = λ k l m n. elim (decLt k b) [
+    | yes x ↦ w .inside k l x n
+    | no x ↦ w .above k (omega arith) ∙ sym (e k (omega arith) m)
+  ];
+  below = w .below;
+  above = λ k l. w .above k (omega arith);
 }
 
 -- the same elements by another rule
@@ -136,6 +149,41 @@ pub copied-written : (d : List ℕ) (at : ℕ) (s : List ℕ) → Written (copyO
 unfolding copied
 copied-written d at s = chosen-written (copyOf at s) d (between (length d) at (at + length s) (omega arith))
 
+-- the first n bytes of s
+pub copied-taken : {d₀ d : List ℕ} {at i : ℕ} (n : ℕ) (s : List ℕ) → Written (copyOf at s) at (at + i) d₀ d → i ≡ n → n ≤ length s → at + n ≤ length d₀ → d ≡ copied d₀ at (take n s)
+copied-taken {at = at} n s w e h l = copied-is (take n s)
+    (written-same w (λ k a b. sym (getD-take n s (k - at) 0 (omega arith))))
+    (rw length-take (omega arith))
+
+-- by way of c, a list that had room for s
+pub copied-by-way : (d₀ z : List ℕ) (at : ℕ) (s : List ℕ) {c d : List ℕ} → length s ≤ length z
+    → c ≡ copied z 0 (take (length s) s) → d ≡ copied d₀ at (take (length s) c) → d ≡ copied d₀ at s
+copied-by-way d₀ z at s {c} {d} h ec ed = ed ∙ rw same
+  where
+    w : Written (copyOf 0 s) 0 (0 + length s) z c
+    w = rw (ec, take-length) (copied-written z 0 s)
+
+    same : take (length s) c ≡ s
+    same = ext-getD 0 (take (length s) c) s (length-take-le (length s) c (omega (arith, w .size))) (λ k l.
+        let m : k < length s = omega (arith, length-take (length s) c) in
+        getD-take (length s) c k 0 m ∙ w .inside k (omega arith) (omega arith) (omega arith) ∙ rw sub-zero)
+
+-- the bytes of s up to `end`
+pub copied-next : {d₀ d e : List ℕ} {at : ℕ} (i end : ℕ) (s : List ℕ) → Written (copyOf at s) at (at + i) d₀ d → e ≡ copied d (at + i) (take (end - i) (drop i s))
+    → i ≤ end → end ≤ length s → Written (copyOf at s) at (at + end) d₀ e
+copied-next {d₀} {d} {e} {at} i end s w ee h l = written-then w (written-same {f = copyOf (at + i) t} v (λ k a b.
+    let x : i + (k - (at + i)) ≡ k - at = omega arith in
+    getD-take (end - i) (drop i s) (k - (at + i)) 0 (omega arith) ∙ rw (getD-drop, x))) (omega arith) (omega arith)
+  where
+    t : List ℕ
+    t = take (end - i) (drop i s)
+
+    z : at + i + length t ≡ at + end
+    z = rw (length-take, length-drop) (omega arith)
+
+    v : Written (copyOf (at + i) t) (at + i) (at + end) d e
+    v = rw (ee, ← z) (copied-written d (at + i) t)
+
 -- FILLED
 pub filled-is : {d₀ d : List ℕ} {from i : ℕ} (to v : ℕ) → Written (λ k. v) from i d₀ d → i ≡ max from (min to (length d₀)) → d ≡ filled d₀ from to v
 unfolding filled
@@ -144,3 +192,39 @@ filled-is {d₀} {from = from} to v w e = chosen-is w (record {
   low = λ k h l. rw (lt-leb from k l);
   high = λ k h l. rw (le-leb from k (omega arith), le-ltb k to (omega arith));
 })
+
+pub filled-written : (d : List ℕ) (from to v : ℕ) → from ≤ to → Written (λ k. v) from to d (filled d from to v)
+unfolding filled
+filled-written d from to v h = chosen-written (λ k. v) d (between (length d) from to h)
+
+-- COPIED, and 0 before and after the copy
+pub copied-cleared-is : (d₀ : List ℕ) (at : ℕ) (s : List ℕ) {end : ℕ} {d e f : List ℕ} → end ≡ min at (length d₀) + min (length s) (length d₀ - at)
+    → d ≡ filled d₀ 0 at 0 → e ≡ copied d at s → f ≡ filled e end (length d₀) 0 → f ≡ copied (tab (length d₀) (λ k. 0)) at s
+copied-cleared-is d₀ at s {end} {d} {e} {f} ee h₁ h₂ h₃ = ext-getD 0 f (copied z at s) (w₃ .size ∙ w₂ .size ∙ w₁ .size ∙ sym (u .size ∙ zn)) (λ k h.
+    let l : k < length d₀ = omega (arith, w₃ .size, w₂ .size, w₁ .size) in
+    let zero : getD z k 0 ≡ 0 = tab-get (length d₀) _ k 0 l in
+    elim (decLt k at) [
+      | yes a ↦ w₃ .below k (omega arith) ∙ w₂ .below k a ∙ w₁ .inside k (omega arith) a l ∙ sym (u .below k a ∙ zero)
+      | no a ↦ elim (decLt k (at + length s)) [
+        | yes b ↦ w₃ .below k (omega arith) ∙ w₂ .inside k (omega arith) b (omega (arith, w₁ .size)) ∙ sym (u .inside k (omega arith) b (omega (arith, zn)))
+        | no b ↦ w₃ .inside k (omega arith) l (omega (arith, w₂ .size, w₁ .size)) ∙ sym (u .above k (omega arith) ∙ zero)
+      ]
+    ])
+  where
+    z : List ℕ
+    z = tab (length d₀) (λ k. 0)
+
+    zn : length z ≡ length d₀
+    zn = tab-length (length d₀) _
+
+    u : Written (copyOf at s) at (at + length s) z (copied z at s)
+    u = copied-written z at s
+
+    w₁ : Written (λ k. 0) 0 at d₀ d
+    w₁ = rw h₁ (filled-written d₀ 0 at 0 (omega arith))
+
+    w₂ : Written (copyOf at s) at (at + length s) d e
+    w₂ = rw h₂ (copied-written d at s)
+
+    w₃ : Written (λ k. 0) end (length d₀) e f
+    w₃ = rw h₃ (filled-written e end (length d₀) 0 (omega arith))

@@ -1,6 +1,7 @@
 // Bytes stored in lent slices: each function answers for any input, and nothing past a slice's end is written.
 ghost use mathlib.Core.Path.{_≡_};
-ghost use lib.ListN.{length};
+ghost use Prim.Native.Nat.{_+_, _≤_};
+ghost use lib.ListN.{length, take};
 ghost use Rattle.notation.specs.Lists.{tab};
 ghost use Rattle.stores.specs.Writes.{copied, filled};
 
@@ -15,6 +16,33 @@ pub fn clear(s: &mut [u8])
     }
 }
 
+// The bytes that are copied at a time.
+const CHUNK: usize = 4096;
+
+// Copies the first n bytes of `from` to index `at` of `to`.
+fn copy_bytes(to: &mut [u8], at: usize, from: &[u8], n: usize)
+    requires { ⌜ (n ≤ length (now from)) × (at + n ≤ length (now to)) ⌝ }
+    ensures { λ _. ⌜ now (to .exit) ≡ copied (now (to .entry)) at (take n (now (from .entry))) ⌝ }
+{
+    let mut i = 0;
+    while i < n {
+        to[at + i] = from[i];
+        i += 1;
+    }
+}
+
+// Copies `from` to index `at` of `to`. The local array shares no byte with either, so that a compiler can make the two loops one
+// memmove; it would keep a single loop, since it is not told that `from` and `to` share none.
+fn copy_chunk(to: &mut [u8], at: usize, from: &[u8])
+    requires { ⌜ (length (now from) ≤ 4096) × (at + length (now from) ≤ length (now to)) ⌝ }
+    ensures { λ _. ⌜ now (to .exit) ≡ copied (now (to .entry)) at (now (from .entry)) ⌝ }
+{
+    let mut chunk = [0u8; CHUNK];
+    let n = from.len();
+    copy_bytes(&mut chunk, 0, from, n);
+    copy_bytes(to, at, &chunk, n);
+}
+
 // Copies `from` to index `at` of `to`, as many bytes as fit; the others stay.
 pub fn copy_in(to: &mut [u8], at: usize, from: &[u8])
     ensures { λ _. ⌜ now (to .exit) ≡ copied (now (to .entry)) at (now (from .entry)) ⌝ }
@@ -22,8 +50,9 @@ pub fn copy_in(to: &mut [u8], at: usize, from: &[u8])
     let n = numbers::least(from.len(), numbers::minus(to.len(), at));
     let mut i = 0;
     while i < n {
-        to[at + i] = from[i];
-        i += 1;
+        let end = i + numbers::least(n - i, CHUNK);
+        copy_chunk(to, at + i, &from[i..end]);
+        i = end;
     }
 }
 
@@ -37,4 +66,15 @@ pub fn fill(bytes: &mut [u8], from: usize, to: usize, value: u8)
         bytes[i] = value;
         i += 1;
     }
+}
+
+// Copies `from` to index `at` of `to`, as many bytes as fit; the others become 0.
+pub fn copy_and_clear(to: &mut [u8], at: usize, from: &[u8])
+    ensures { λ _. ⌜ now (to .exit) ≡ copied (tab (length (now (to .entry))) (λ k. 0)) at (now (from .entry)) ⌝ }
+{
+    let size = to.len();
+    let end = numbers::least(at, size) + numbers::least(from.len(), numbers::minus(size, at));
+    fill(to, 0, at, 0);
+    copy_in(to, at, from);
+    fill(to, end, size, 0);
 }

@@ -1,21 +1,15 @@
 -- What a loop that fills a table has done so far, and what it leaves at its end.
-use mathlib.Core.Path.{_≡_, refl, sym, _∙_}
+use mathlib.Core.Path.{_≡_, refl}
 use mathlib.Core.Bool.{Bool, true, false, _&&_}
 use mathlib.Core.List.{List}
-use Prim.Native.Nat.{ℕ, _+_, _-_, _%_, _≤_, _<_, min, max}
-use native.Mathlib.Decide.{decLt}
+use Prim.Native.Nat.{ℕ, _+_, _-_, _≤_, _<_, min, max}
 use native.Mathlib.Omega.{arith}
 use lib.Dec.{leb, ltb}
-use lib.ListN.{length, getD, set, List·getD-eq-default}
+use lib.ListN.{length, getD, set}
 use borrow.Author.Tests.{lt-ltb, le-ltb, le-leb, lt-leb}
 use Rattle.notation.specs.Choice.{choose}
 use Rattle.notation.specs.Lists.{tab}
-use Rattle.laws.specs.Choice.{choose-no}
-use Rattle.laws.specs.Counts.{sum-none, sum-next}
-use Rattle.laws.specs.Lists.{tab-by}
 use Rattle.stores.proofs.Written.{Written, written-none, written-more, chosen-is}
-use Rattle.rules.specs.Entries.{pointerEntry}
-use Rattle.sv32_tables.specs.Filled.{marked, markedBelow, leavesPointed}
 
 -- FILLING: of the entries from a up to b, which may be none, those below i are filled, each with f of its index
 pub record Filling (f : ℕ → ℕ) (a b i : ℕ) (d₀ d : List ℕ) : Type 0 where
@@ -53,43 +47,3 @@ module _ {f : ℕ → ℕ} {a b i r : ℕ} {d₀ d : List ℕ} (base lo hi : ℕ
   -- hi too
   pub filling-through : r ≡ hi + 1 - base → d ≡ tab (length d₀) (λ k. choose (leb lo (base + k) && leb (base + k) hi) (f k) (getD d₀ k 0))
   filling-through er = filling-below (hi + 1) (λ v. leb v hi) er (λ v l. le-leb v hi (omega arith)) (λ v l. lt-leb v hi (omega arith))
-
--- POINTING
--- entry m of the root table, with its marked slots pointed to leaf tables
-abbrev pub slotEntry : List ℕ → List ℕ → ℕ → ℕ → ℕ
-slotEntry e marks first m = choose (marked marks m) (pointerEntry ((first - markedBelow marks m) % 0x40_0000)) (getD e m 0)
-
--- the slots below m are done, of which `pointed` are marked
-pub record Pointing (d₀ marks : List ℕ) (first : ℕ) (d : List ℕ) (pointed m : ℕ) : Type 0 where
-  pub count : pointed ≡ markedBelow marks m
-  pub few : pointed ≤ m
-  pub done : Written (slotEntry d₀ marks first) 0 m d₀ d
-
-pub pointing-none : (d marks : List ℕ) (first : ℕ) → Pointing d marks first d 0 0
-unfolding markedBelow
-pointing-none d marks first = record { count = sym (sum-none _); few = omega arith; done = written-none _ 0 0 d refl }
-
-pub pointing-more : {d₀ marks d : List ℕ} {first pointed m page x one : ℕ} → Pointing d₀ marks first d pointed m
-    → page ≡ first - pointed
-    → x ≡ choose (ltb 0 (getD marks m 0)) (pointerEntry (page % 0x40_0000)) (getD d m 0)
-    → one ≡ choose (ltb 0 (getD marks m 0)) 1 0
-    → one ≤ 1
-    → Pointing d₀ marks first (set d m x) (pointed + one) (m + 1)
-unfolding marked markedBelow
-pointing-more {marks = marks} {m = m} p e v o l = record {
-  count = omega (arith, p .count, sum-next m (λ k. choose (marked marks k) 1 0));
-  few = omega (arith, p .few);
-  done = written-more (p .done) (m + 1) refl (v ∙ rw (e, p .count, p .done .above m (omega arith))) (omega arith);
-}
-
-pub pointing-is : {d₀ marks d : List ℕ} {first pointed m : ℕ} → Pointing d₀ marks first d pointed m
-    → m ≡ min (length d₀) (length marks)
-    → d ≡ leavesPointed d₀ marks first
-unfolding leavesPointed marked
-pointing-is {d₀} {marks} {d} {m = m} p e = tab-by (length d₀) _ 0 d (p .done .size) (λ k h. elim (decLt k m) [
-  | yes l ↦ p .done .inside k (omega arith) l h
-  | no l ↦
-      let z : getD marks k 0 ≡ 0 = List·getD-eq-default marks 0 {n = k} (omega arith) in
-      let n : marked marks k ≡ false = le-ltb 0 (getD marks k 0) (omega arith) in
-      p .done .above k (omega arith) ∙ sym (choose-no _ _ n)
-])

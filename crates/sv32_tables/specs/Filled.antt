@@ -1,16 +1,16 @@
 -- What a table of entries e holds after a write: it keeps its length, and each index has what the rule says.
 use mathlib.Core.Path.{_≡_, refl}
-use mathlib.Core.Bool.{Bool, _&&_}
+use mathlib.Core.Bool.{_&&_}
 use mathlib.Core.List.{List}
 use Prim.Native.Nat.{ℕ, _+_, _-_, _*_, _%_}
 use lib.ListN.{length, getD}
 use lib.Dec.{leb, ltb}
 use Rattle.notation.specs.Choice.{choose}
-use Rattle.notation.specs.Lists.{tab, sum}
+use Rattle.notation.specs.Lists.{tab}
 use Rattle.types.specs.declared.Rights.{Rights}
 use Rattle.rules.specs.Block.{stackPages, stackFirst}
 use Rattle.rules.specs.Space.{inStack}
-use Rattle.rules.specs.Entries.{reservedEntry, pointerEntry, pageEntry}
+use Rattle.rules.specs.Entries.{reservedEntry, pageEntry}
 
 -- the leaf table for root slot m with the virtual pages v from `from` to `to` mapped: `from` to the physical page `first`,
 -- each next one to the next lower
@@ -29,16 +29,3 @@ pub stack-reserved : (b : List ℕ) (q : ℕ) (e : List ℕ) (m : ℕ)
     → stackReserved e m (stackPages b q) ≡ tab (length e) (λ i. choose (inStack b q (1024 * m + i)) reservedEntry (getD e i 0))
 unfolding stackReserved inStack stackFirst
 stack-reserved b q e m = refl
-
--- slot m is marked: its mark is not 0. A slot past the marks' end is not
-unfoldable pub marked : List ℕ → ℕ → Bool
-marked marks m = ltb 0 (getD marks m 0)
-
--- how many slots below m are marked
-unfoldable pub markedBelow : List ℕ → ℕ → ℕ
-markedBelow marks m = sum m (λ k. choose (marked marks k) 1 0)
-
--- the root table with its marked slots pointed to leaf tables: the first to the physical page `first`, each next one to the next lower
-unfoldable pub leavesPointed : List ℕ → List ℕ → ℕ → List ℕ
-leavesPointed e marks first =
-    tab (length e) (λ m. choose (marked marks m) (pointerEntry ((first - markedBelow marks m) % 0x40_0000)) (getD e m 0))

@@ -14,8 +14,8 @@ same-length c = search needs
 
 returns : tie.Need-returns
 returns c =
-    let at-clear = c .before .before .before in
-    no-copy-page-is _ _ _ (at-clear .before .before .read-section .ensures) (c .if1 .taken) (at-clear .clear .ensures)
+    let at-if = c .before .before .before .before in
+    no-copy-page-is _ _ _ (at-if .before .read-section .ensures) (at-if .if1 .taken) (c .before .before .clear .ensures)
 
 cast-offset : tie.Need-cast-offset
 cast-offset c = search needs
@@ -41,8 +41,8 @@ tail-requires c κs = search needs
 minus-requires-2 : tie.Need-minus-requires-2
 minus-requires-2 c κs = search needs
 
-copy-in-requires : tie.Need-copy-in-requires
-copy-in-requires c κs = search needs
+copy-and-clear-requires : tie.Need-copy-and-clear-requires
+copy-and-clear-requires c κs = search needs
 
 same-length-2 : tie.Need-same-length-2
 same-length-2 c = search needs
@@ -51,16 +51,14 @@ returns-2 : tie.Need-returns-2
 returns-2 c =
     let at-tail = c .before .before .before .before .before in
     let at-if = at-tail .before .before .before .before .before .before in
-    let at-clear = at-if .before .before .before in
     section-page-is _ _ _
-    (at-clear .before .before .read-section .ensures)
+    (at-if .before .read-section .ensures)
     (at-if .if1 .left)
-    (at-clear .clear .ensures)
     (at-tail .before .before .part .ensures)
     (at-tail .before .minus .ensures)
     (at-tail .tail .ensures)
     (c .before .before .before .minus2 .ensures)
-    (c .before .before .copy-in .ensures)
+    (c .before .before .copy-and-clear .ensures)
 
 pub section-page-spec : {M : Type 1} → statement M
 section-page-spec =
@@ -78,6 +76,6 @@ section-page-spec =
     minus-requires
     tail-requires
     minus-requires-2
-    copy-in-requires
+    copy-and-clear-requires
     same-length-2
     returns-2)

@@ -1,5 +1,5 @@
 use Prim.Native.Nat.{_+_, _-_, _≤_}
-use Rattle.stores.proofs.Written.{Written, written-none, copyOf, copied-more, copied-is}
+use Rattle.stores.proofs.Written.{Written, written-none, copyOf, copied-next, copied-is}
 use native.Mathlib.Omega.{arith}
 use borrow.Author.Needs.{needs}
 use Rattle.stores.proofs.copy_in.Statement.{statement}
@@ -21,23 +21,38 @@ least-requires c κs = search needs
 loop-holds : tie.Need-loop-holds Inv-loop μ-loop
 loop-holds c = (search needs, written-none _ _ _ _ (omega arith))
 
-shared-slice-read-to : tie.Need-shared-slice-read-to Inv-loop μ-loop
-shared-slice-read-to c = search needs
+sub-least : tie.Need-sub-least Inv-loop μ-loop
+sub-least c = search needs
 
-add-to : tie.Need-add-to Inv-loop μ-loop
-add-to c = search needs
+least-requires-2 : tie.Need-least-requires-2 Inv-loop μ-loop
+least-requires-2 c κs = search needs
 
-slice-write-to : tie.Need-slice-write-to Inv-loop μ-loop
-slice-write-to c = search needs
+add-end : tie.Need-add-end Inv-loop μ-loop
+add-end c = search needs
 
-add-i : tie.Need-add-i Inv-loop μ-loop
-add-i c = search needs
+add-copy-chunk : tie.Need-add-copy-chunk Inv-loop μ-loop
+add-copy-chunk c = search needs
+
+sub-copy-chunk : tie.Need-sub-copy-chunk Inv-loop μ-loop
+sub-copy-chunk c = search needs
+
+part-copy-chunk-start : tie.Need-part-copy-chunk-start Inv-loop μ-loop
+part-copy-chunk-start c = search needs
+
+part-copy-chunk-end : tie.Need-part-copy-chunk-end Inv-loop μ-loop
+part-copy-chunk-end c = search needs
+
+copy-chunk-requires : tie.Need-copy-chunk-requires Inv-loop μ-loop
+copy-chunk-requires c κs = search needs
 
 loop-less : tie.Need-loop-less Inv-loop μ-loop
 loop-less c = search needs
 
 loop-again : tie.Need-loop-again Inv-loop μ-loop
-loop-again c = (omega arith, copied-more (c .before .before .before .before .before .before .before .args .from .now) _ (c .before .before .loop .inv .1))
+loop-again c =
+    let l = c .before .before .before .before .before .before .before in
+    let from = l .before .before .before .before .before .args .from .now in
+    (omega arith, copied-next (l .loop .i) _ from (l .loop .inv .1) (c .before .before .copy-chunk .ensures) (omega arith) (omega arith))
 
 same-length : tie.Need-same-length Inv-loop μ-loop
 same-length c = search needs
@@ -54,10 +69,14 @@ copy-in-spec =
     minus-requires
     least-requires
     loop-holds
-    shared-slice-read-to
-    add-to
-    slice-write-to
-    add-i
+    sub-least
+    least-requires-2
+    add-end
+    add-copy-chunk
+    sub-copy-chunk
+    part-copy-chunk-start
+    part-copy-chunk-end
+    copy-chunk-requires
     loop-less
     loop-again
     same-length

@@ -7,13 +7,13 @@ slice-aggregate-point-to-leaves : tie.Need-slice-aggregate-point-to-leaves
 slice-aggregate-point-to-leaves c = search needs
 
 point-to-leaves-requires : tie.Need-point-to-leaves-requires
-point-to-leaves-requires c κs = search needs
+point-to-leaves-requires c κs = blank
 
-slice-aggregate-point-to-kernel : tie.Need-slice-aggregate-point-to-kernel
-slice-aggregate-point-to-kernel c = search needs
+slice-aggregate-point-to-leaf : tie.Need-slice-aggregate-point-to-leaf
+slice-aggregate-point-to-leaf c = search needs
 
-point-to-kernel-requires : tie.Need-point-to-kernel-requires
-point-to-kernel-requires c κs = search needs
+point-to-leaf-requires : tie.Need-point-to-leaf-requires
+point-to-leaf-requires c κs = search needs
 
 slice-aggregate-store : tie.Need-slice-aggregate-store
 slice-aggregate-store c = search needs
@@ -28,8 +28,7 @@ returns : tie.Need-returns
 returns c =
     let mapped = c .before .before .before .before .before .before in
     let pointed = mapped .before .before .before in
-    let pre = pointed .before .before .before .before .before .pre in
-    root-page _ _ _ _ _ _ _ _ _ _ _ (pre .0) (pre .1) blank (pointed .point-to-leaves .ensures) (mapped .point-to-kernel .ensures)
+    root-page _ _ _ _ _ _ _ _ _ (pointed .before .before .before .before .pre) (pointed .point-to-leaves .ensures) (mapped .point-to-leaf .ensures)
     (c .before .before .store .ensures)
 
 pub load-root-spec : {M : Type 1} → statement M
@@ -38,8 +37,8 @@ load-root-spec =
     (tie.spec
     slice-aggregate-point-to-leaves
     point-to-leaves-requires
-    slice-aggregate-point-to-kernel
-    point-to-kernel-requires
+    slice-aggregate-point-to-leaf
+    point-to-leaf-requires
     slice-aggregate-store
     store-requires
     same-length

@@ -1,11 +1,8 @@
 use mathlib.Core.Path.{sym}
 use lib.Seq.{set-out}
 use borrow.Author.Needs.{needs}
-use Rattle.sv32_tables.proofs.point_to_kernel.Statement.{statement}
-use Rattle.sv32_tables.proofs.point_to_kernel.Tie as tie
-
-cast-slot : tie.Need-cast-slot
-cast-slot c = search needs
+use Rattle.sv32_tables.proofs.point_to_leaf.Statement.{statement}
+use Rattle.sv32_tables.proofs.point_to_leaf.Tie as tie
 
 pointer-entry-requires : tie.Need-pointer-entry-requires
 pointer-entry-requires c κs = search needs
@@ -25,11 +22,10 @@ returns c = rw (c .pointer-entry .ensures)
 returns-2 : tie.Need-returns-2
 returns-2 c = sym (set-out _ _ _ (c .if1 .left))
 
-pub point-to-kernel-spec : {M : Type 1} → statement M
-point-to-kernel-spec =
+pub point-to-leaf-spec : {M : Type 1} → statement M
+point-to-leaf-spec =
     tie.close
     (tie.spec
-    cast-slot
     pointer-entry-requires
     mul-entries
     slice-write-entries
