@@ -6,53 +6,53 @@ use std::sync::atomic::{AtomicU64, Ordering};
 extern "C" {
     fn rigpollen_load(
         block: *const u8,
-        block_len: usize,
+        block_len: u64,
         flash: *const u8,
-        flash_len: usize,
+        flash_len: u64,
         ram: *mut u8,
-        ram_len: usize,
+        ram_len: u64,
         ram_start: u32,
     ) -> u32;
     fn rigpollen_answer(
         block: *const u8,
-        block_len: usize,
+        block_len: u64,
         flash: *const u8,
-        flash_len: usize,
+        flash_len: u64,
         ram: *mut u8,
-        ram_len: usize,
+        ram_len: u64,
         ram_start: u32,
         answer: *mut u32,
-        answer_len: usize,
+        answer_len: u64,
     ) -> u32;
     fn rigpollen_check(
         block: *const u8,
-        block_len: usize,
+        block_len: u64,
         flash: *const u8,
-        flash_len: usize,
-        ram_len: usize,
+        flash_len: u64,
+        ram_len: u64,
         ram_start: u32,
         answer: *mut u32,
-        answer_len: usize,
+        answer_len: u64,
     ) -> u32;
     fn rigpollen_process(
         block: *const u8,
-        block_len: usize,
+        block_len: u64,
         flash: *const u8,
-        flash_len: usize,
-        ram_len: usize,
+        flash_len: u64,
+        ram_len: u64,
         ram_start: u32,
         process: u32,
         words: *mut u32,
-        words_len: usize,
+        words_len: u64,
     ) -> u32;
     fn rigpollen_walk(
         ram: *const u8,
-        ram_len: usize,
+        ram_len: u64,
         ram_start: u32,
         root: u32,
         address: u32,
         page: *mut u32,
-        page_len: usize,
+        page_len: u64,
     ) -> u32;
 }
 
@@ -150,11 +150,11 @@ pub fn load(block: &mut Lent, flash: &mut Lent, ram: &mut Lent, start: u32) -> u
     unsafe {
         rigpollen_load(
             block.start(),
-            block.len,
+            block.len as u64,
             flash.start(),
-            flash.len,
+            flash.len as u64,
             ram.start(),
-            ram.len,
+            ram.len as u64,
             start,
         )
     }
@@ -173,14 +173,14 @@ pub fn answer(
     let number = unsafe {
         rigpollen_answer(
             block.start(),
-            block.len,
+            block.len as u64,
             flash.start(),
-            flash.len,
+            flash.len as u64,
             ram.start(),
-            ram.len,
+            ram.len as u64,
             start,
             slice.as_mut_ptr(),
-            len,
+            len as u64,
         )
     };
     (number, words)
@@ -200,13 +200,13 @@ pub fn check(block: &mut Lent, flash: &mut Lent, ram: Place, len: usize) -> (u32
     let number = unsafe {
         rigpollen_check(
             block.start(),
-            block.len,
+            block.len as u64,
             flash.start(),
-            flash.len,
-            ram.len,
+            flash.len as u64,
+            ram.len as u64,
             ram.start,
             slice.as_mut_ptr(),
-            len,
+            len as u64,
         )
     };
     (number, words)
@@ -225,14 +225,14 @@ pub fn process(
     let number = unsafe {
         rigpollen_process(
             block.start(),
-            block.len,
+            block.len as u64,
             flash.start(),
-            flash.len,
-            ram.len,
+            flash.len as u64,
+            ram.len as u64,
             ram.start,
             process,
             slice.as_mut_ptr(),
-            len,
+            len as u64,
         )
     };
     (number, words)
@@ -245,12 +245,12 @@ pub fn walk(ram: &mut Lent, start: u32, root: u32, address: u32, len: usize) -> 
     let number = unsafe {
         rigpollen_walk(
             ram.start(),
-            ram.len,
+            ram.len as u64,
             start,
             root,
             address,
             slice.as_mut_ptr(),
-            len,
+            len as u64,
         )
     };
     (number, words)

@@ -4,7 +4,9 @@
 //!   compare [--cases N] [--seed S]     compare N cases (20,000)
 //!   compare --seed S --case K          compare case K of that seed alone
 //!   compare --faults [--seed S]        switch 01's faults on here, one at a time: each must be found
+//!   compare --write FILE [--cases N] [--seed S]   write N cases with what the rules give to a file
 
+mod case_file;
 mod cases;
 mod check;
 mod demand3;
@@ -31,6 +33,7 @@ struct Options {
     seed: u64,
     case: Option<u64>,
     faults: bool,
+    write: Option<String>,
 }
 
 fn options() -> Result<Options, String> {
@@ -39,6 +42,7 @@ fn options() -> Result<Options, String> {
         seed: SEED,
         case: None,
         faults: false,
+        write: None,
     };
     let mut args = std::env::args().skip(1);
     while let Some(arg) = args.next() {
@@ -52,9 +56,10 @@ fn options() -> Result<Options, String> {
             "--seed" => options.seed = number()?,
             "--case" => options.case = Some(number()?),
             "--faults" => options.faults = true,
+            "--write" => options.write = Some(args.next().ok_or("--write needs a file")?),
             _ => {
                 return Err(format!(
-                    "unknown argument {arg:?}; known are --cases N, --seed S, --case K, --faults"
+                    "unknown argument {arg:?}; known are --cases N, --seed S, --case K, --faults, --write FILE"
                 ))
             }
         }
@@ -119,6 +124,9 @@ fn compare_faults(seed: u64) -> Result<(), String> {
 fn run() -> Result<(), String> {
     let options = options()?;
     small::check_rules()?;
+    if let Some(path) = &options.write {
+        return case_file::write(path, options.seed, options.cases);
+    }
     ffi::name_case_on_signals();
     match options.case {
         _ if options.faults => compare_faults(options.seed),

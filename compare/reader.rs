@@ -33,7 +33,7 @@ fn draw_entry(rng: &mut Rng, near: u64, pages: u64) -> u32 {
 }
 
 /// RAM full of such entries, at any start and of any length.
-fn malformed_ram(rng: &mut Rng) -> (Vec<u8>, u32) {
+pub fn malformed_ram(rng: &mut Rng) -> (Vec<u8>, u32) {
     let odd_length = if rng.chance(40) { rng.below(PAGE) } else { 0 };
     let len = rng.below(7) * PAGE + odd_length;
     let page = match rng.below(6) {
@@ -58,7 +58,7 @@ fn malformed_ram(rng: &mut Rng) -> (Vec<u8>, u32) {
 }
 
 /// Page numbers of root tables: in RAM, at its edges, at 2^32, and such as would wrap into RAM.
-fn draw_root(rng: &mut Rng, start: u32, len: u64) -> u32 {
+pub fn draw_root(rng: &mut Rng, start: u32, len: u64) -> u32 {
     let inside = (u64::from(start) / PAGE + rng.below(len / PAGE + 3)).saturating_sub(1) as u32;
     match rng.below(16) {
         0 => inside.wrapping_add(rng.pick(&[1 << 20, 1 << 22, 1 << 31, 3 << 20])),

@@ -7,15 +7,16 @@
  * gives a number, and leaves RAM as it came. The reader walks page tables by
  * the Sv32 rules.
  *
- * Link with librigpollen.a. The entries keep no state between calls, take
- * nothing from a heap, and need nothing of a C library but what compilers
- * call by themselves (memcpy, memset and the like). They answer for every
- * input: there is none that they must not be given, if the areas are as said
- * here.
+ * Link with librigpollen.a for your machine: x86-64, or bare RV32 (ilp32,
+ * rv32imac or rv32ima). The linker must supply memcpy, memmove and memset as
+ * C has them, and nothing else. The entries keep no state between calls and
+ * take nothing from a heap. They answer for every input: there is none that
+ * they must not be given, if the areas are as said here.
  *
  * Areas. Each area is a pointer and a length. The length of `block`, `flash`
  * and `ram` counts bytes, that of `answer`, `words` and `page` counts 32-bit
- * words.
+ * words. Lengths have 64 bits on both machines: a declaration with size_t
+ * would be wrong on RV32.
  *   - An area with `const` is only read. It may share bytes with another area
  *     with `const`.
  *   - An area without `const` must not share a byte with any other area of
@@ -25,6 +26,8 @@
  *     be aligned for what it points to; any valid pointer will do.
  *   - So RAM or flash that starts at address 0 cannot be lent from C: its
  *     pointer would be null.
+ *   - On RV32 an area has less than 2^31 bytes, and does not hold the last
+ *     byte of the address space, 0xFFFFFFFF.
  *   - Words in `block` and `ram` are little-endian bytes and need no
  *     alignment.
  *
@@ -35,7 +38,6 @@
 #ifndef RIGPOLLEN_H
 #define RIGPOLLEN_H
 
-#include <stddef.h>
 #include <stdint.h>
 
 #ifdef __cplusplus
@@ -43,6 +45,14 @@ extern "C" {
 #endif
 
 #define RIGPOLLEN_PAGE_BYTES 4096u
+
+/*
+ * The most stack that a call takes on RV32, in bytes below the caller's stack
+ * pointer, without what memcpy, memmove and memset take for themselves. An
+ * interrupt on the same stack comes on top. (tools/rv32-stack prints this
+ * figure, and what each entry takes.)
+ */
+#define RIGPOLLEN_RV32_STACK_BYTES 5088u
 
 /* ------------------------------------------------------------ the loader */
 
@@ -131,9 +141,9 @@ extern "C" {
  * Not noticed. A block or a flash image that lies in RAM pages which the load
  * takes is overwritten while it is read; nothing can tell.
  */
-uint32_t rigpollen_load(const uint8_t *block, size_t block_length,
-                        const uint8_t *flash, size_t flash_length,
-                        uint8_t *ram, size_t ram_length,
+uint32_t rigpollen_load(const uint8_t *block, uint64_t block_length,
+                        const uint8_t *flash, uint64_t flash_length,
+                        uint8_t *ram, uint64_t ram_length,
                         uint32_t ram_start);
 
 /*
@@ -146,11 +156,11 @@ uint32_t rigpollen_load(const uint8_t *block, size_t block_length,
  *
  * Returns the number too.
  */
-uint32_t rigpollen_answer(const uint8_t *block, size_t block_length,
-                          const uint8_t *flash, size_t flash_length,
-                          uint8_t *ram, size_t ram_length,
+uint32_t rigpollen_answer(const uint8_t *block, uint64_t block_length,
+                          const uint8_t *flash, uint64_t flash_length,
+                          uint8_t *ram, uint64_t ram_length,
                           uint32_t ram_start,
-                          uint32_t *answer, size_t answer_length);
+                          uint32_t *answer, uint64_t answer_length);
 
 /*
  * The answer that the load would give, with no RAM lent: it depends on RAM's
@@ -162,10 +172,10 @@ uint32_t rigpollen_answer(const uint8_t *block, size_t block_length,
  *
  * Returns the number too.
  */
-uint32_t rigpollen_check(const uint8_t *block, size_t block_length,
-                         const uint8_t *flash, size_t flash_length,
-                         size_t ram_length, uint32_t ram_start,
-                         uint32_t *answer, size_t answer_length);
+uint32_t rigpollen_check(const uint8_t *block, uint64_t block_length,
+                         const uint8_t *flash, uint64_t flash_length,
+                         uint64_t ram_length, uint32_t ram_start,
+                         uint32_t *answer, uint64_t answer_length);
 
 /* What rigpollen_process returns where the block has no such process. */
 #define RIGPOLLEN_NO_PROCESS 31u
@@ -191,11 +201,11 @@ uint32_t rigpollen_check(const uint8_t *block, size_t block_length,
  * Returns 0; else the number of the refusal, or RIGPOLLEN_NO_PROCESS where
  * the block boots and has no such process.
  */
-uint32_t rigpollen_process(const uint8_t *block, size_t block_length,
-                           const uint8_t *flash, size_t flash_length,
-                           size_t ram_length, uint32_t ram_start,
+uint32_t rigpollen_process(const uint8_t *block, uint64_t block_length,
+                           const uint8_t *flash, uint64_t flash_length,
+                           uint64_t ram_length, uint32_t ram_start,
                            uint32_t process,
-                           uint32_t *words, size_t words_length);
+                           uint32_t *words, uint64_t words_length);
 
 /* ------------------------------------------------------------ the reader */
 
@@ -233,10 +243,10 @@ uint32_t rigpollen_process(const uint8_t *block, size_t block_length,
  * Returns RIGPOLLEN_WALK_ABSENT, RIGPOLLEN_WALK_RESERVED or
  * RIGPOLLEN_WALK_PAGE.
  */
-uint32_t rigpollen_walk(const uint8_t *ram, size_t ram_length,
+uint32_t rigpollen_walk(const uint8_t *ram, uint64_t ram_length,
                         uint32_t ram_start,
                         uint32_t root, uint32_t address,
-                        uint32_t *page, size_t page_length);
+                        uint32_t *page, uint64_t page_length);
 
 /* ----------------------------------- what a loaded board has, and where */
 
