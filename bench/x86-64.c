@@ -1,0 +1,62 @@
+/*
+ * Loads the large board again and again, and in between sets and copies the
+ * same bytes by memset and memcpy. Prints the least time of each, in
+ * microseconds.
+ */
+#define _POSIX_C_SOURCE 200809L
+#include "board.h"
+
+#include <stdio.h>
+#include <stdlib.h>
+#include <string.h>
+#include <time.h>
+
+#define TURNS 100
+
+static uint8_t block[BLOCK_BYTES];
+
+static double seconds(void)
+{
+    struct timespec now;
+
+    clock_gettime(CLOCK_MONOTONIC, &now);
+    return (double)now.tv_sec + 1e-9 * (double)now.tv_nsec;
+}
+
+static double least(double a, double b)
+{
+    return a < b ? a : b;
+}
+
+int main(void)
+{
+    uint8_t *const ram = aligned_alloc(RIGPOLLEN_PAGE_BYTES, RAM_BYTES);
+    uint8_t *const flash = aligned_alloc(RIGPOLLEN_PAGE_BYTES, COPIED_BYTES);
+    uint32_t answer[RIGPOLLEN_ANSWER_WORDS];
+    double load = 1e9, memory = 1e9;
+
+    if (ram == NULL || flash == NULL)
+        return 1;
+    make_block(block);
+    make_flash(flash);
+    memset(ram, 0xA5, RAM_BYTES);
+    for (int i = 0; i < TURNS; i++) {
+        double before = seconds();
+        uint32_t pages;
+
+        rigpollen_answer(block, BLOCK_BYTES, flash, COPIED_BYTES, ram, RAM_BYTES,
+                         0x80000000u, answer, RIGPOLLEN_ANSWER_WORDS);
+        load = least(load, seconds() - before);
+        if (answer[RIGPOLLEN_ANSWER_NUMBER] != RIGPOLLEN_LOADED)
+            return 1;
+        pages = answer[RIGPOLLEN_ANSWER_TAKEN] - LOST_PAGES;
+        before = seconds();
+        memset(ram, 0, (size_t)pages * RIGPOLLEN_PAGE_BYTES);
+        memcpy(ram, flash, COPIED_BYTES);
+        memory = least(memory, seconds() - before);
+    }
+    printf("load %.0f memory %.0f\n", 1e6 * load, 1e6 * memory);
+    free(flash);
+    free(ram);
+    return 0;
+}
