@@ -1,0 +1,65 @@
+/*
+ * The flash chip: the boot block (docs/BLOCK.md), then what its sections are
+ * copied from. Flash offsets count from the block's first byte.
+ */
+#include "board.h"
+
+/* Flags of a section. Without any of them its pages can only be read. */
+#define NOCOPY     1
+#define WRITABLE   2
+#define EXECUTABLE 4
+
+/* Others can be tried: `run rv32imac -DCONSTANTS_FLAGS=2`. */
+#ifndef KERNEL_FLAGS
+#define KERNEL_FLAGS EXECUTABLE
+#endif
+#ifndef CONSTANTS_FLAGS
+#define CONSTANTS_FLAGS 0
+#endif
+
+    .section .flash, "a"
+    .global block
+block:
+    /* format and length, then count and offset of each kind of record */
+    .word 1, block_end - block
+    .word (sections - processes) / 16, processes - block
+    .word (regions - sections) / 16, sections - block
+    .word (block_end - regions) / 8, regions - block
+
+processes: /* entry point, first section, section count, kind */
+    .word KERNEL_CODE, 0, 2, 0
+    .word USER_CODE, 2, 3, 0
+    .word USER_CODE, 5, 3, 0
+
+sections: /* virtual address, size, flash offset, flags */
+    .word KERNEL_CODE, kernel_end - kernel, kernel - block, KERNEL_FLAGS
+    .word KERNEL_DATA, KERNEL_DATA_BYTES, 0, NOCOPY | WRITABLE
+
+    .word USER_CODE, user_2_end - user_2, user_2 - block, EXECUTABLE
+    .word USER_DATA, USER_DATA_BYTES, 0, NOCOPY | WRITABLE
+    .word CONSTANTS_2, two_end - two, two - block, CONSTANTS_FLAGS
+
+    .word USER_CODE, user_3_end - user_3, user_3 - block, EXECUTABLE
+    .word USER_DATA, USER_DATA_BYTES, 0, NOCOPY | WRITABLE
+    .word CONSTANTS_3, three_end - three, three - block, 0
+
+regions: /* start, pages */
+    .word POWER, 1
+    .word UART, 1
+block_end:
+
+kernel:
+    .incbin "kernel.bin"
+kernel_end:
+user_2:
+    .incbin "user_2.bin"
+user_2_end:
+user_3:
+    .incbin "user_3.bin"
+user_3_end:
+two:
+    .asciz "two"
+two_end:
+three:
+    .asciz "three"
+three_end:
