@@ -23,7 +23,7 @@ use Rattle.laws.specs.Choice.{by-test, choose-yes, choose-no}
 use Rattle.laws.specs.Lists.{tab-length, tab-get, tab-by, tab-same}
 use Rattle.laws.specs.Counts.{one, one-yes, one-no, sum-at, sum-zero}
 use Rattle.word_stores.specs.Words.{withWords}
-use Rattle.order_leaves.specs.Leaves.{First}
+use Rattle.order_leaves.specs.Leaves.{First, leafUses}
 use Rattle.order_leaves.proofs.Leaves.{gather-first}
 use Rattle.stores.proofs.Written.{Written, written-none, written-more, written-skip}
 use Rattle.order_laws.specs.Uses.{kernel-leaf}
@@ -33,7 +33,7 @@ use Rattle.writing.specs.Pages.{put, put-part, put-same}
 use Rattle.writing.specs.Uses.{wrote-page}
 use Rattle.writing.specs.Loaded.{content, WroteAny, wrote-any, any-then}
 use Rattle.accepted.specs.Fits.{Fits}
-use Rattle.loader.specs.TablePages.{leafUses, leafPointer, LeavesAt}
+use Rattle.loader.specs.TablePages.{leafPointer, LeavesAt}
 
 -- a page of at most 4,096 bytes with 1,024 words stored in it
 table-stored : (d ws : List ℕ) → length ws ≡ 1024 → length d ≤ 4096 → withWords d ws ≡ tab (length d) (tableByte (λ i. getD ws i 0))

@@ -9,10 +9,11 @@ ghost use Rattle.rules.specs.Order.{hasLeaf, tableUses, allTables, trackerPages
 ghost use Rattle.rules.specs.Tables.{rootEntry, leafEntry};
 ghost use Rattle.rules.specs.Load.{physPage, tableByte};
 ghost use Rattle.order_laws.specs.Places.{rootPlace};
+ghost use Rattle.order_leaves.specs.Leaves.{leafUses};
 ghost use Rattle.writing.specs.Pages.{put};
 ghost use Rattle.writing.specs.Loaded.{WroteAny};
 ghost use Rattle.accepted.specs.Fits.{Fits};
-ghost use Rattle.loader.specs.TablePages.{leafUses, leafPointer, LeavesAt};
+ghost use Rattle.loader.specs.TablePages.{leafPointer, LeavesAt};
 use crate::leaf_entries::leaf_entries;
 use page_allocator::PageAllocator;
 use page_allocator::physical;

@@ -16,11 +16,7 @@ use Rattle.laws.specs.Choice.{choose-yes, choose-no, by-choose}
 use Rattle.laws.specs.Lists.{gather-next, some-of-tab}
 use Rattle.rules.specs.Block.{sectionsOf, sectionRecord, firstPage, lastPage}
 use Rattle.rules.specs.Order.{Use, leafTable, slotsOf, inSlots, hasLeaf, tableUses}
-use Rattle.order_leaves.specs.Leaves.{First, touched}
-
--- the leaf table of process q for root slot m, if it has one
-abbrev leaves : List ℕ → ℕ → ℕ → List Use
-leaves b q m = choose (hasLeaf b q m) (leafTable q m ∷ []) []
+use Rattle.order_leaves.specs.Leaves.{First, touched, leafUses}
 
 -- FIRST
 first-same : {t u : ℕ → Bool} {m r : ℕ} → ((k : ℕ) → t k ≡ u k) → First u m r → First t m r
@@ -117,26 +113,28 @@ gather-first f {m = m} {r = r} p h n =
 pub record Counted (b : List ℕ) (q m n : ℕ) : Type 0 where
   pub inside : m ≤ 1024
   pub here : m < 1024 → hasLeaf b q m ≡ true
-  pub count : n ≡ 1 + length (gather m (leaves b q))
+  pub count : n ≡ 1 + length (gather m (leafUses b q))
   pub small : n ≤ m + 1
 
-skipped : (b : List ℕ) (q : ℕ) {m r : ℕ} → First (hasLeaf b q) m r → m ≤ 1024 → gather r (leaves b q) ≡ gather m (leaves b q)
-skipped b q f h = gather-first (leaves b q) f h (λ k n. choose-no _ _ n)
+skipped : (b : List ℕ) (q : ℕ) {m r : ℕ} → First (hasLeaf b q) m r → m ≤ 1024 → gather r (leafUses b q) ≡ gather m (leafUses b q)
+unfolding leafUses
+skipped b q f h = gather-first (leafUses b q) f h (λ k n. choose-no _ _ n)
 
 pub count-start : (b : List ℕ) (q : ℕ) {m : ℕ} → First (hasLeaf b q) 0 m → Counted b q m 1
 unfolding gather
 count-start b q f = record { inside = f .high; here = f .here; count = rw (skipped b q f (omega arith)); small = omega arith }
 
 pub count-next : (b : List ℕ) (q : ℕ) {m n r : ℕ} → Counted b q m n → m < 1024 → First (hasLeaf b q) (m + 1) r → Counted b q r (n + 1)
+unfolding leafUses
 count-next b q {m} {n} {r} c h f =
-    let one : leaves b q m ≡ leafTable q m ∷ [] = choose-yes _ _ (c .here h) in
+    let one : leafUses b q m ≡ leafTable q m ∷ [] = choose-yes _ _ (c .here h) in
     record {
       inside = f .high;
       here = f .here;
-      count = rw (skipped b q f (omega arith), gather-next m (leaves b q), one, length-append) (omega (arith, c .count));
+      count = rw (skipped b q f (omega arith), gather-next m (leafUses b q), one, length-append) (omega (arith, c .count));
       small = omega (arith, c .small, f .low);
     }
 
 pub count-is : (b : List ℕ) (q : ℕ) {m n : ℕ} → Counted b q m n → 1024 ≤ m → n ≡ length (tableUses b q)
-unfolding tableUses
+unfolding tableUses leafUses
 count-is b q {m} c h = let e : m ≡ 1024 = omega (arith, c .inside) in omega (arith, rw e at (c .count))

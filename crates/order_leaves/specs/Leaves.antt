@@ -1,11 +1,12 @@
--- The first root slot that passes a test, and the test of some sections.
+-- The first root slot that passes a test, the test of some sections, and the leaf table of one slot.
 use mathlib.Core.Path.{_≡_}
 use mathlib.Core.Bool.{Bool, true, false}
-use mathlib.Core.List.{List}
+use mathlib.Core.List.{List, [], _∷_}
 use Prim.Native.Nat.{ℕ, _≤_, _<_, min}
+use Rattle.notation.specs.Choice.{choose}
 use Rattle.notation.specs.Lists.{exists}
 use Rattle.rules.specs.Block.{sectionRecord}
-use Rattle.rules.specs.Order.{slotsOf, inSlots}
+use Rattle.rules.specs.Order.{Use, leafTable, slotsOf, inSlots, hasLeaf}
 
 -- r is the first root slot from m on that passes the test, or 1,024 where none does
 pub record First (t : ℕ → Bool) (m r : ℕ) : Type 0 where
@@ -17,3 +18,7 @@ pub record First (t : ℕ → Bool) (m r : ℕ) : Type 0 where
 -- one of the first k sections of process q has a page in root slot m
 unfoldable pub touched : List ℕ → ℕ → ℕ → ℕ → Bool
 touched b q k m = exists (λ j. inSlots m (slotsOf b (sectionRecord b q j))) k
+
+-- the leaf table of process q for root slot m, if it has one
+unfoldable pub leafUses : List ℕ → ℕ → ℕ → List Use
+leafUses b q m = choose (hasLeaf b q m) (leafTable q m ∷ []) []
