@@ -13,7 +13,7 @@
 #define USER_PAGES   130u
 #define COPIED_BYTES ((KERNEL_PAGES + (PROCESSES - 1) * USER_PAGES) * RIGPOLLEN_PAGE_BYTES)
 #define RAM_BYTES    (4096u * RIGPOLLEN_PAGE_BYTES)
-#define LOST_PAGES   4u /* at RAM's top: never written */
+#define TOP_PAGES    4u /* at RAM's top: never written */
 
 #define SECTIONS_AT  (32 + 16 * PROCESSES)
 #define BLOCK_BYTES  (SECTIONS_AT + 2 * 16 * PROCESSES)

@@ -29,7 +29,7 @@ int main(void)
         return 1;
     }
 
-    pages = answer[RIGPOLLEN_ANSWER_TAKEN] - LOST_PAGES;
+    pages = answer[RIGPOLLEN_ANSWER_TAKEN] - TOP_PAGES;
     before = instructions();
     memset(ram, 0, pages * RIGPOLLEN_PAGE_BYTES);
     memcpy(ram, flash, COPIED_BYTES);

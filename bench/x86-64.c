@@ -49,7 +49,7 @@ int main(void)
         load = least(load, seconds() - before);
         if (answer[RIGPOLLEN_ANSWER_NUMBER] != RIGPOLLEN_LOADED)
             return 1;
-        pages = answer[RIGPOLLEN_ANSWER_TAKEN] - LOST_PAGES;
+        pages = answer[RIGPOLLEN_ANSWER_TAKEN] - TOP_PAGES;
         before = seconds();
         memset(ram, 0, (size_t)pages * RIGPOLLEN_PAGE_BYTES);
         memcpy(ram, flash, COPIED_BYTES);

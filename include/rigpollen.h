@@ -109,7 +109,7 @@ extern "C" {
 /* Where the words of an answer lie. */
 #define RIGPOLLEN_ANSWER_NUMBER  0 /* 0, or the refusal's number             */
 #define RIGPOLLEN_ANSWER_PLACE   1 /* the refused record, counted from 0     */
-#define RIGPOLLEN_ANSWER_TAKEN   2 /* pages of RAM taken, with the four lost */
+#define RIGPOLLEN_ANSWER_TAKEN   2 /* pages of RAM taken, with its top four */
 #define RIGPOLLEN_ANSWER_FREE    3 /* pages of RAM not taken, from page 0 up */
 #define RIGPOLLEN_ANSWER_TRACKER 4 /* pages that the page tracker takes      */
 #define RIGPOLLEN_ANSWER_WORDS   5

@@ -122,8 +122,8 @@ pointing-is b q first {d₀} {d} p z h =
     tab-by 1024 _ 0 d (p .done .size ∙ n) (λ k l. p .done .inside k (omega arith) (omega arith) (omega arith))
 
 root-leaf : (b : List ℕ) (ram : PageRange) (q first kernel m : ℕ) → LeavesAt b ram q first kernel → m < 1024
-    → choose (hasLeaf b q m) (pointerEntry ((first - leavesBelow b q m) % 0x40_0000)) 0 ≡ choose (hasLeaf b q m) (pointerEntry (physPage b ram (leafTable q m))) absentEntry
-unfolding choose absentEntry
+    → leafPointer b q first m ≡ choose (hasLeaf b q m) (pointerEntry (physPage b ram (leafTable q m))) absentEntry
+unfolding choose absentEntry leafPointer
 root-leaf b ram q first kernel m at h = by-test (λ c. hasLeaf b q m ≡ c
     → choose c (pointerEntry ((first - leavesBelow b q m) % 0x40_0000)) 0 ≡ choose c (pointerEntry (physPage b ram (leafTable q m))) 0)
     (hasLeaf b q m)
@@ -137,7 +137,7 @@ pub root-page : (b : List ℕ) (ram : PageRange) (q : ℕ) (r e₁ e₂ : List �
     → LeavesAt b ram q first kernel → e₁ ≡ tab 1024 (leafPointer b q first)
     → e₂ ≡ set e₁ 1023 (pointerEntry (kernel % 0x40_0000))
     → r′ ≡ put r k (tableByte (λ i. getD e₂ i 0)) → r′ ≡ put r k (tableByte (rootEntry b (physPage b ram) q))
-unfolding rootEntry leafPointer
+unfolding rootEntry
 root-page b ram q r e₁ e₂ k first kernel at e1 e2 p =
     let n₁ : length e₁ ≡ 1024 = ap length e1 ∙ tab-length 1024 _ in
     let l : kernel < 0x40_0000 = at .kernel-small in
