@@ -6,3 +6,4 @@ pub mod Loaded
 pub mod Exactly
 pub mod Demand2
 pub mod Demand3
+pub mod AccessedDirty

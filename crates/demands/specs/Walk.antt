@@ -1,5 +1,5 @@
 -- The walk of loaded RAM is what the rules give. All that is known of RAM here is its length, its place, and the bytes of each use.
-use mathlib.Core.Path.{_≡_, refl, ap, _∙_}
+use mathlib.Core.Path.{_≡_, refl, sym, ap, _∙_}
 use mathlib.Core.List.{List}
 use mathlib.Core.Option.{some}
 use mathlib.Core.Bool.{Bool, true, false}
@@ -10,7 +10,7 @@ use lib.ListN.{length, getD}
 use lib.Dec.{eqb}
 use borrow.Author.Tests.{eqb-true, eqb-false, le-leb, lt-ltb}
 use Rattle.notation.specs.Choice.{choose}
-use Rattle.notation.specs.Words.{byteOf}
+use Rattle.notation.specs.Words.{word, byteOf}
 use Rattle.types.specs.declared.PageRange.{PageRange}
 use Rattle.types.specs.declared.Rights.{Rights}
 use Rattle.types.specs.declared.Entry.{Entry}
@@ -21,7 +21,7 @@ use Rattle.rules.specs.Block.{processCount, sectionRecord, address, size, secti
 use Rattle.rules.specs.Space.{Data, sectionPage, trackerPage, processList, blockCopy, Mapping, unmapped, stack, maps, mappingAt}
 use Rattle.rules.specs.Order.{Use, holds, rootTable, leafTable, hasLeaf, order, uses, trackerPages, ramPage}
 use Rattle.rules.specs.Tables.{rootEntry, entryFor, leafEntry}
-use Rattle.rules.specs.Entries.{decode}
+use Rattle.rules.specs.Entries.{pageEntry, decode}
 use Rattle.rules.specs.Contents.{sectionPageByte, tracker, dataByte}
 use Rattle.rules.specs.Load.{physPage, satpWord, tableByte, pageByte}
 use Rattle.rules.specs.Reader.{tableEntry, pageAnswer, leafAnswer, rootAnswer, walk}
@@ -33,7 +33,11 @@ use Rattle.laws.specs.Words.{word-of-bytes}
 use Rattle.accepted.specs.Fits.{Fits}
 use Rattle.order_laws.specs.Uses.{InRam, kernel-leaf, in-ram, order-root, order-leaf, order-process-list}
 use Rattle.demands.specs.Mappings.{Readable, readable, AtHome, at-home, homeOf, no-leaf, kernel-part}
-use Rattle.demands.specs.Entries.{decode-page, decode-pointer, decode-absent, decode-reserved, page-entry-word, pointer-entry-word}
+use Rattle.demands.specs.Entries.{decode-page, decode-pointer, decode-absent, decode-reserved, page-entry-word, pointer-entry-word, pointer-entry-flags, pointer-entry-page}
+
+-- the word at entry i of the table at physical page number P
+unfoldable pub tableWord : Ram → ℕ → ℕ → ℕ
+tableWord r P i = word (r .bytes) (4096 * P - r .start + 4 * i)
 
 -- ENTRIES
 -- the walk's answer at what stands there
@@ -108,12 +112,12 @@ module _ (x : Image) (ram : PageRange) (fits : Fits (x .block) ram) (before byte
   phys-small u = omega (arith, some-page, fits .end)
 
   -- entry i of the table of a use, whose entries are f 0, f 1, ..
-  table-read : (u : Use) (f : ℕ → ℕ) → InRam b N u
+  table-word : (u : Use) (f : ℕ → ℕ) → InRam b N u
       → ((k : ℕ) → k < 4096 → getD bytes (4096 * ramPage b N u + k) 0 ≡ tableByte f k)
       → (i : ℕ) → i < 1024 → f i < 0x1_0000_0000
-      → tableEntry r (physPage b ram u) i ≡ decode (f i)
-  unfolding tableEntry liesIn physPage tableByte
-  table-read u f p is i h l =
+      → tableWord r (physPage b ram u) i ≡ f i
+  unfolding tableWord physPage tableByte
+  table-word u f p is i h l =
       let m : ℕ = ramPage b N u in
       let e : 4096 * (ram .base + m) - 4096 * ram .base + 4 * i ≡ 4096 * m + 4 * i = omega arith in
       let four : (c : ℕ) → c < 4 → getD bytes (4096 * m + 4 * i + c) 0 ≡ byteOf (f i) c = λ c z.
@@ -121,24 +125,38 @@ module _ (x : Image) (ram : PageRange) (fits : Fits (x .block) ram) (before byte
       let d : (4 * i + c) / 4 ≡ i = omega arith in
       let s : (4 * i + c) % 4 ≡ c = omega arith in
       rw p (is (4 * i + c) (omega arith) ∙ rw (d, s)) in
+      rw e (word-of-bytes bytes (4096 * m + 4 * i) (f i) l four)
+
+  root-word : (q m : ℕ) → 1 ≤ q → q ≤ processCount b → m < 1024
+      → tableWord r (physPage b ram (rootTable q)) m ≡ rootEntry b (physPage b ram) q m
+  unfolding pageByte
+  root-word q m lo hi h =
+      let p : InRam b N (rootTable q) = use-in-ram _ (order-root b _ q lo hi) in
+      table-word (rootTable q) (rootEntry b (physPage b ram) q) p (held _ p) m h (root-entry-word b (physPage b ram) phys-small q m)
+
+  leaf-word : (q m i : ℕ) → 1 ≤ q → q ≤ processCount b → m < 1024 → hasLeaf b q m ≡ true → i < 1024
+      → tableWord r (physPage b ram (leafTable q m)) i ≡ entryFor (physPage b ram) (mappingAt b (trackerPages b N) q (1024 * m + i))
+  unfolding pageByte leafEntry
+  leaf-word q m i lo hi h e l =
+      let p : InRam b N (leafTable q m) = use-in-ram _ (order-leaf b _ q m lo hi h e) in
+      table-word (leafTable q m) (leafEntry b (trackerPages b N) (physPage b ram) q m) p (held _ p) i l (entry-for-word (physPage b ram) phys-small _)
+
+  -- a table of a use lies in RAM, so its words are read
+  table-read : (u : Use) (i : ℕ) → InRam b N u → tableEntry r (physPage b ram u) i ≡ decode (tableWord r (physPage b ram u) i)
+  unfolding tableEntry tableWord liesIn physPage
+  table-read u i p =
+      let m : ℕ = ramPage b N u in
       choose-yes _ _ (and-both (le-leb (4096 * ram .base) (4096 * (ram .base + m)) (omega arith)) (le-leb (4096 * (ram .base + m) + 4096) (4096 * ram .base + length bytes) (omega (arith, p .inside, len))))
-      ∙ rw e (ap decode (word-of-bytes bytes (4096 * m + 4 * i) (f i) l four))
 
   root-read : (q m : ℕ) → 1 ≤ q → q ≤ processCount b → m < 1024
       → tableEntry r (physPage b ram (rootTable q)) m ≡ decode (rootEntry b (physPage b ram) q m)
-  unfolding pageByte
-  root-read q m lo hi h =
-      let p : InRam b N (rootTable q) = use-in-ram _ (order-root b _ q lo hi) in
-      table-read (rootTable q) (rootEntry b (physPage b ram) q) p (held _ p) m h (root-entry-word b (physPage b ram) phys-small q m)
+  root-read q m lo hi h = table-read (rootTable q) m (use-in-ram _ (order-root b _ q lo hi)) ∙ ap decode (root-word q m lo hi h)
 
   leaf-read : (q m i : ℕ) → 1 ≤ q → q ≤ processCount b → m < 1024 → hasLeaf b q m ≡ true → i < 1024
       → leafAnswer (tableEntry r (physPage b ram (leafTable q m)) i)
       ≡ answerFor (physPage b ram) (mappingAt b (trackerPages b N) q (1024 * m + i))
-  unfolding pageByte leafEntry
   leaf-read q m i lo hi h e l =
-      let p : InRam b N (leafTable q m) = use-in-ram _ (order-leaf b _ q m lo hi h e) in
-      ap leafAnswer (table-read (leafTable q m) (leafEntry b (trackerPages b N) (physPage b ram) q m) p (held _ p) i l
-      (entry-for-word (physPage b ram) phys-small _))
+      ap leafAnswer (table-read (leafTable q m) i (use-in-ram _ (order-leaf b _ q m lo hi h e)) ∙ ap decode (leaf-word q m i lo hi h e l))
       ∙ leaf-answer (physPage b ram) (mappingAt b (trackerPages b N) q (1024 * m + i)) (readable b (trackerPages b N) q (1024 * m + i))
 
   -- the walk on from an entry of process q's root
@@ -168,6 +186,34 @@ module _ (x : Image) (ram : PageRange) (fits : Fits (x .block) ram) (before byte
   unfolding walk
   walk-answers q a lo hi h =
       rw (root-read q (a / 4194304) lo hi (omega arith), ← (div-div-eq-div-mul a 4096 1024)) (from-root q (a / 4096) lo hi (omega arith))
+
+  -- where process q has a page: the pointer in its root, and the entry in the leaf table there
+  pub page-words : (q v : ℕ) → 1 ≤ q → q ≤ processCount b → v < 0x10_0000 → (d : Data) (t : Rights)
+      → mappingAt b (trackerPages b N) q v ≡ maps d t
+      → (tableWord r (physPage b ram (rootTable q)) (v / 1024) % 1024 ≡ 1)
+      × (tableWord r (tableWord r (physPage b ram (rootTable q)) (v / 1024) / 1024) (v % 1024) ≡ pageEntry (physPage b ram (holds d)) t)
+  unfolding rootEntry entryFor
+  page-words q v lo hi h d t e =
+      let phys : Use → ℕ = physPage b ram in
+      let T : ℕ = trackerPages b N in
+      let P : ℕ → Type 0 = λ n. (n % 1024 ≡ 1) × (tableWord r (n / 1024) (v % 1024) ≡ pageEntry (phys (holds d)) t) in
+      rw (root-word q (v / 1024) lo hi (omega arith))
+      (by-choose P (eqb (v / 1024) 1023) _ _
+      (λ k.
+      let f : v / 1024 ≡ 1023 = eqb-true (v / 1024) 1023 k in
+      let g : 1024 * 1023 + v % 1024 ≡ v = omega arith in (
+        pointer-entry-flags _,
+        rw pointer-entry-page (leaf-word 1 1023 (v % 1024) (omega arith) (omega arith) (omega arith) (kernel-leaf b) (omega arith)
+            ∙ rw g (ap (entryFor phys) (kernel-part b T q v f ∙ e))),
+      ))
+      (λ k. by-choose P (hasLeaf b q (v / 1024)) _ _
+      (λ f.
+      let g : 1024 * (v / 1024) + v % 1024 ≡ v = omega arith in
+      (pointer-entry-flags _, rw pointer-entry-page (leaf-word q (v / 1024) (v % 1024) lo hi (omega arith) f (omega arith) ∙ rw g (ap (entryFor phys) e))))
+      (λ f.
+      let n : unmapped ≡ maps d t = sym (no-leaf b T q v (eqb-false (v / 1024) 1023 k) f) ∙ e in
+      let z : _≡_ {A = ℕ} 0 1 = cc in
+      absurd (omega arith))))
 
   -- what is shown at the answered page
   shown-answer : (a : ℕ) (s : Mapping) → AtHome b (trackerPages b N) (a / 4096) s

@@ -10,11 +10,14 @@
 --   W      4  write
 --   X      8  execute
 --   U     16  user
---   G     32  global      \
---   A     64  accessed     | in a valid entry these change nothing, and the loader leaves them clear
---   D    128  dirty        |
---   RSW  256, 512         /
+--   G     32  global    the loader leaves it clear
+--   A     64  accessed  the loader sets it in every page entry
+--   D    128  dirty     the loader sets it in a page entry with write
+--   RSW  256, 512       the loader leaves them clear
 --   PPN       the physical page number
+--
+-- G, A, D and RSW change nothing in how a valid entry reads. A chip that does not set A and D itself faults where a page is used without A,
+-- or stored to without D.
 --
 -- R, W and X all clear in a valid entry: a pointer to the next level's table. Valid clear and the whole word 22: reserved.
 use mathlib.Core.Bool.{Bool}
@@ -37,9 +40,9 @@ reservedEntry = 22
 unfoldable pub pointerEntry : ℕ → ℕ
 pointerEntry P = 1024 * P + 1
 
--- valid, and a flag for each right
+-- valid, a flag for each right, accessed, and dirty where there is write
 unfoldable pub pageEntry : ℕ → Rights → ℕ
-pageEntry P t = 1024 * P + (1 + choose (t .read) 2 0 + choose (t .write) 4 0 + choose (t .execute) 8 0 + choose (t .user) 16 0)
+pageEntry P t = 1024 * P + (1 + choose (t .read) 2 0 + choose (t .write) 4 0 + choose (t .execute) 8 0 + choose (t .user) 16 0 + 64 + choose (t .write) 128 0)
 
 -- READING AN ENTRY
 unfoldable pub rightsIn : ℕ → Rights

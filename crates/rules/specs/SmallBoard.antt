@@ -1,17 +1,19 @@
 -- 01, "The small board, whole": its figures, as one claim. (The owner of a user process's tables and the words of the process list stand
--- in no demand.)
+-- in no demand.) 02, A1: the flags of page entries, as another.
 use mathlib.Core.Path.{_≡_, refl}
-use mathlib.Core.List.{[], _∷_}
+use mathlib.Core.Bool.{true, false}
+use mathlib.Core.List.{[], _∷_, map}
 use Prim.Native.Nat.{ℕ, _*_}
 use native.Mathlib.Decide.{ℕ-discrete}
 use Rattle.notation.specs.Choice.{choices}
 use Rattle.notation.specs.Lists.{tab, lists}
 use Rattle.notation.specs.Words.{word, words}
 use Rattle.types.specs.declared.PageRange.{PageRange}
+use Rattle.types.specs.declared.Rights.{Rights}
 use Rattle.rules.specs.Block.{block-rules}
-use Rattle.rules.specs.Space.{sectionPage, trackerPage, processList, blockCopy, space-rules}
+use Rattle.rules.specs.Space.{sectionPage, trackerPage, processList, blockCopy, sectionRights, kernelRead, kernelWrite, space-rules}
 use Rattle.rules.specs.Order.{Use, holds, rootTable, leafTable, trackerPages, pagesNeeded, freePages, ramPage, pagesOf, order-rules}
-use Rattle.rules.specs.Entries.{entry-rules}
+use Rattle.rules.specs.Entries.{pageEntry, entry-rules}
 use Rattle.rules.specs.Tables.{rootEntry, leafEntry, table-rules}
 use Rattle.rules.specs.Contents.{tracker, processListByte, content-rules}
 use Rattle.rules.specs.Load.{physPage, satpWord, load-rules}
@@ -35,7 +37,7 @@ pub record SmallBoard : Type 0 where
   pub table-pages : page (rootTable 1) ∷ page (leafTable 1 1023) ∷ page (rootTable 2) ∷ page (leafTable 2 0) ∷ page (leafTable 2 511) ∷ []
       ≡ 5 ∷ 4 ∷ 3 ∷ 2 ∷ 1 ∷ []
   -- A at entry 16 of page 2, B at 32
-  pub leaf-entries : leafEntry smallBoard 1 phys 2 0 16 ∷ leafEntry smallBoard 1 phys 2 0 32 ∷ [] ≡ 0x1000_2C1B ∷ 0x1000_2817 ∷ []
+  pub leaf-entries : leafEntry smallBoard 1 phys 2 0 16 ∷ leafEntry smallBoard 1 phys 2 0 32 ∷ [] ≡ 0x1000_2C5B ∷ 0x1000_28D7 ∷ []
   -- the root's entries at 0, 511, 1,023
   pub root-entries : rootEntry smallBoard phys 2 0 ∷ rootEntry smallBoard phys 2 511 ∷ rootEntry smallBoard phys 2 1023 ∷ []
       ≡ 0x1000_0801 ∷ 0x1000_0401 ∷ 0x1000_1001 ∷ []
@@ -61,3 +63,13 @@ small-board = record {
   page-counts = refl;
   owners-pages = refl;
 }
+
+-- the small board has no such page
+unfoldable pub userReadOnly : Rights
+userReadOnly = record { read = true; write = false; execute = false; user = true }
+
+-- user code (A), user read-only, user data (B); kernel code, block copy and process list, tracker
+pub page-flags : map (pageEntry 0) (sectionRights smallBoard 2 1 ∷ userReadOnly ∷ sectionRights smallBoard 2 2
+    ∷ sectionRights smallBoard 1 0 ∷ kernelRead ∷ kernelWrite ∷ []) ≡ 0x5B ∷ 0x53 ∷ 0xD7 ∷ 0x4B ∷ 0x43 ∷ 0xC7 ∷ []
+unfolding ℕ-discrete userReadOnly example-rules entry-rules space-rules block-rules words lists choices
+page-flags = refl

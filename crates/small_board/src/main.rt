@@ -134,7 +134,7 @@ fn print_free(ram: &[u8], root: PhysPage) {
     }
 }
 
-// `page 2 entry 16: 0x10002C1B`; nothing where the entry is absent.
+// `page 2 entry 16: 0x10002C5B`; nothing where the entry is absent.
 fn print_entry(ram: &[u8], table: PhysPage, i: u32) {
     let word = word_of(ram, table, i);
     let entry = sv32_entries::decode(word);

@@ -17,6 +17,10 @@ const EXECUTE: u32 = 8;
 
 const USER: u32 = 16;
 
+const ACCESSED: u32 = 64;
+
+const DIRTY: u32 = 128;
+
 // The weight of the physical page number (PPN), and the first number that is too large for an entry.
 const PPN_WEIGHT: u32 = 1024;
 
@@ -40,7 +44,9 @@ pub fn page_entry(page: PhysPage, rights: Rights) -> u32
         + numbers::flag(rights.read, READ)
         + numbers::flag(rights.write, WRITE)
         + numbers::flag(rights.execute, EXECUTE)
-        + numbers::flag(rights.user, USER);
+        + numbers::flag(rights.user, USER)
+        + ACCESSED
+        + numbers::flag(rights.write, DIRTY);
     PPN_WEIGHT * (page.0 % PPN_END) + flags
 }
 

@@ -28,6 +28,15 @@ flag-requires-4 c κs = search needs
 add-flags-4 : tie.Need-add-flags-4
 add-flags-4 c = search needs
 
+add-flags-5 : tie.Need-add-flags-5
+add-flags-5 c = search needs
+
+flag-requires-5 : tie.Need-flag-requires-5
+flag-requires-5 c κs = search needs
+
+add-flags-6 : tie.Need-add-flags-6
+add-flags-6 c = search needs
+
 mul-result : tie.Need-mul-result
 mul-result c = search needs
 
@@ -50,6 +59,9 @@ page-entry-spec =
     add-flags-3
     flag-requires-4
     add-flags-4
+    add-flags-5
+    flag-requires-5
+    add-flags-6
     mul-result
     add-result
     returns)
