@@ -50,7 +50,7 @@ pub fn dirty_ram(rng: &mut Rng, len: u64) -> Vec<u8> {
         2 => {
             let mut ram = rng.bytes(len);
             for word in ram.chunks_exact_mut(4) {
-                word[0] = [0, 1, 0x16, 0x17, 0x1b, 0xcf][word[1] as usize % 6];
+                word[0] = [0, 1, 0x16, 0x53, 0x5b, 0xd7][word[1] as usize % 6];
             }
             ram
         }

@@ -1,4 +1,4 @@
-//! 01's rules for one call of the loader, written a second time.
+//! 01's rules for one call of the loader, as 02 changes them, written a second time.
 //!
 //! The structure is not that of a loader: first what each process sees is worked out from the block
 //! (a map from virtual page to reserved or to rights and a taken page), then the taken pages are put
@@ -24,11 +24,17 @@ pub const LIST_PAGE: u32 = 0xfff80;
 /// The root entry of the kernel's leaf table.
 const KERNEL_ENTRY: u32 = 1023;
 
-/// Rights as `rigpollen_walk` numbers them; an entry's flags are these times 2, plus 1.
+/// Rights as `rigpollen_walk` numbers them.
 const READ: u32 = 1;
 const WRITE: u32 = 2;
 const EXECUTE: u32 = 4;
 const BY_USER: u32 = 8;
+
+/// The flags of a page's entry: 1, the rights times 2, and by 02 (A1) "accessed (64), and writable ones dirty (128) too".
+fn page_flags(rights: u32) -> u32 {
+    let dirty = if rights & WRITE != 0 { 128 } else { 0 };
+    1 | rights << 1 | 64 | dirty
+}
 
 /// 01's five faults (the third has two halves), which can be switched on here to try the comparison.
 #[derive(Clone, Copy, PartialEq, Eq)]
@@ -612,7 +618,7 @@ impl Plan {
         for &page in &self.leaves[process as usize - 1][nth].pages {
             entries[(page % 1024) as usize] = match self.view_of(process, page)[&page] {
                 Sight::Reserved => 22,
-                Sight::Page { rights, page } => self.physical(page) * 1024 + rights * 2 + 1,
+                Sight::Page { rights, page } => self.physical(page) * 1024 + page_flags(rights),
             };
         }
         entries

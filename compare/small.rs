@@ -142,10 +142,14 @@ pub fn check_rules() -> Result<(), String> {
         Fault::None,
     )
     .image;
-    // Page, word in it, value: entries of A and B, root entries, satp words.
+    // Page, word in it, value: entries of A and B, and of the kernel's pages, with the flags of 02 (A1); root entries, satp words.
     let figures = [
-        (2, 16, 0x1000_2c1b),
-        (2, 32, 0x1000_2817),
+        (2, 16, 0x1000_2c5b),
+        (2, 32, 0x1000_28d7),
+        (4, 0, 0x1000_244b),
+        (4, 768, 0x1000_1843),
+        (4, 832, 0x1000_20c7),
+        (4, 896, 0x1000_1c43),
         (3, 0, 0x1000_0801),
         (3, 511, 0x1000_0401),
         (3, 1023, 0x1000_1001),
@@ -160,7 +164,7 @@ pub fn check_rules() -> Result<(), String> {
     for (page, index, value) in figures {
         let got = word(&ram, page, index);
         if got != value {
-            return Err(format!("small board, page {page}, word {index}: the rules here give {got:#x}, 01 gives {value:#x}"));
+            return Err(format!("small board, page {page}, word {index}: the rules here give {got:#x}, the papers {value:#x}"));
         }
     }
     let owners = |number| {

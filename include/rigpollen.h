@@ -256,6 +256,13 @@ uint32_t rigpollen_walk(const uint8_t *ram, uint64_t ram_length,
 #define RIGPOLLEN_PROCESS_LIST_ADDRESS 0xFFF80000u /* read        */
 
 /*
+ * Page table entries. A page's entry carries accessed, and dirty too if it can
+ * be written; so no first use of a page faults on a chip that does not set
+ * these bits itself, and a kernel that looks for used or changed pages clears
+ * them first. A pointer's entry has its valid bit alone. The entries of a
+ * stack's reserve are 22, which is not valid: there the kernel has to put a
+ * page.
+ *
  * The tracker has one byte for each RAM page, rising, then one for each I/O
  * page of the regions in record order: 0 is free, else the number of the
  * process that owns the page. Pages of sections belong to their process, all

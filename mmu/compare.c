@@ -2,9 +2,10 @@
  * compare NAME RAM EXPECTED
  *
  * Compares what the stub recorded in the machine's memory with what was
- * expected. Prints one line about the board NAME and ends with 0 if all
- * agrees; otherwise prints a line for each of the first ten differences and
- * ends with 1. Ends with 2 if there is nothing to compare.
+ * expected, and the board's RAM after the run with the same before it. Prints
+ * one line about the board NAME and ends with 0 if all agrees; otherwise prints
+ * a line for each of the first ten differences and ends with 1. Ends with 2 if
+ * there is nothing to compare.
  */
 #include <stdio.h>
 #include <stdlib.h>
@@ -46,6 +47,14 @@ static void *allocate(size_t length)
     return memory;
 }
 
+static uint32_t *read_ram(FILE *file, uint32_t pages)
+{
+    uint32_t *ram = allocate((size_t)pages * PAGE_BYTES);
+
+    read_all(file, ram, (size_t)pages * PAGE_BYTES);
+    return ram;
+}
+
 /* ---------------------------------------------------- what was expected */
 
 struct process_expected {
@@ -57,6 +66,7 @@ struct process_expected {
 struct expectation {
     struct expected head;
     uint8_t table[MAX_PAGES];
+    uint32_t *ram; /* before the run */
     struct process_expected *process[MAX_PROCESSES];
 };
 
@@ -82,6 +92,7 @@ static void read_expectation(const char *name, struct expectation *expectation)
         || expectation->head.processes > MAX_PROCESSES)
         fail("the file of what is expected is damaged");
     read_all(file, expectation->table, expectation->head.pages);
+    expectation->ram = read_ram(file, expectation->head.pages);
     for (uint32_t q = 0; q < expectation->head.processes; q++)
         expectation->process[q] = read_process(file);
     fclose(file);
@@ -108,7 +119,7 @@ static uint32_t outcome_expected(uint32_t rights, uint32_t mode)
 
 struct recorded {
     uint32_t *word, *end;
-    uint32_t *pristine; /* the image before the first pass */
+    uint32_t *ram; /* after the run */
 };
 
 static void seek(FILE *file, uint32_t address)
@@ -141,9 +152,8 @@ static void read_recorded(const char *name, uint32_t pages,
     recorded->word = allocate(length);
     recorded->end = recorded->word + length / 4;
     read_all(file, recorded->word, length);
-    recorded->pristine = allocate((size_t)pages * PAGE_BYTES);
-    seek(file, PRISTINE);
-    read_all(file, recorded->pristine, (size_t)pages * PAGE_BYTES);
+    seek(file, IMAGE);
+    recorded->ram = read_ram(file, pages);
     fclose(file);
 }
 
@@ -263,37 +273,33 @@ static void compare_pages(const struct expectation *expectation,
     }
 }
 
-/* A pass may set accessed and dirty bits in leaf tables, and nothing else. */
-static void compare_changes(const struct expectation *expectation,
-                            struct recorded *recorded, uint32_t process,
-                            uint32_t mode)
+/* The MMU sets accessed and dirty where they are clear, and stores put back
+ * what was loaded. The loader has set both: no word of RAM may change. */
+static uint32_t compare_ram(const struct expectation *expectation,
+                            const struct recorded *recorded)
 {
-    while (next_is(recorded, RECORD_CHANGED)) {
-        uint32_t offset, was, is;
+    static const char *const what[] = { "no table", "a root table",
+                                        "a leaf table" };
+    uint32_t changed = 0;
 
-        take_word(recorded);
-        offset = take_word(recorded);
-        is = take_word(recorded);
-        if (offset / PAGE_BYTES >= expectation->head.pages)
-            fail("the records are damaged");
-        was = recorded->pristine[offset / 4];
-        if (((was ^ is) & ~0xC0u) == 0
-            && expectation->table[offset / PAGE_BYTES] == LEAF_TABLE)
+    for (uint32_t i = 0; i < expectation->head.pages * PAGE_WORDS; i++) {
+        if (recorded->ram[i] == expectation->ram[i])
             continue;
+        changed++;
         if (differs())
-            printf("process %u as %s: RAM at offset 0x%X was 0x%08X,"
-                   " is 0x%08X after the pass\n", process, mode_name(mode),
-                   offset, was, is);
+            printf("RAM at offset 0x%X, in %s, was 0x%08X, is 0x%08X after the"
+                   " run\n", 4 * i, what[expectation->table[i / PAGE_WORDS]],
+                   expectation->ram[i], recorded->ram[i]);
     }
+    return changed;
 }
 
 /* QEMU 7.2 drops the two highest bits of an entry, those of addresses from
  * 2^32 on, so no probe can tell them. RAM ends there: they must be clear. */
-static void compare_high_bits(const struct expectation *expectation,
-                              const struct recorded *recorded)
+static void compare_high_bits(const struct expectation *expectation)
 {
     for (uint32_t i = 0; i < expectation->head.pages * PAGE_WORDS; i++) {
-        const uint32_t entry = recorded->pristine[i];
+        const uint32_t entry = expectation->ram[i];
 
         if (expectation->table[i / PAGE_WORDS] == NO_TABLE || entry >> 30 == 0)
             continue;
@@ -311,11 +317,11 @@ static void compare_pass(const struct expectation *expectation,
         || take_word(recorded) != mode)
         fail("the records are damaged");
     compare_pages(expectation, recorded, process, mode);
-    compare_changes(expectation, recorded, process, mode);
 }
 
 static void print_agreement(const char *name,
-                            const struct expectation *expectation)
+                            const struct expectation *expectation,
+                            uint32_t changed)
 {
     const uint32_t processes = expectation->head.processes;
     uint32_t seen = 0;
@@ -323,14 +329,16 @@ static void print_agreement(const char *name,
     for (uint32_t q = 0; q < processes; q++)
         seen += expectation->process[q]->seen;
     printf("board %s: %u processes, %u pages of RAM, %u virtual pages seen,"
-           " %llu probes agree\n", name, processes, expectation->head.pages,
-           seen, 3ull * MODES * VIRTUAL_PAGES * processes);
+           " %llu probes agree, %u words changed\n", name, processes,
+           expectation->head.pages, seen,
+           3ull * MODES * VIRTUAL_PAGES * processes, changed);
 }
 
 int main(int argc, char **argv)
 {
     static struct expectation expectation;
     struct recorded recorded;
+    uint32_t changed;
 
     if (argc != 4)
         fail("usage: compare NAME RAM EXPECTED");
@@ -339,13 +347,14 @@ int main(int argc, char **argv)
     for (uint32_t process = 1; process <= expectation.head.processes; process++)
         for (uint32_t mode = 0; mode < MODES; mode++)
             compare_pass(&expectation, &recorded, process, mode);
-    compare_high_bits(&expectation, &recorded);
+    changed = compare_ram(&expectation, &recorded);
+    compare_high_bits(&expectation);
     if (recorded.word != recorded.end)
         fail("there are records after the last pass");
     if (differences > 0) {
         printf("board %s: differences: %lu\n", argv[1], differences);
         return 1;
     }
-    print_agreement(argv[1], &expectation);
+    print_agreement(argv[1], &expectation, changed);
     return 0;
 }

@@ -1,11 +1,12 @@
 /*
- * image BOARD RAM EXPECTED [BIT]
+ * image BOARD RAM EXPECTED [ENTRY BIT]
  *
  * Loads a board with the library and writes two files: RAM, the memory of the
  * machine that is to be started, with the loaded board and the stub's orders
  * in it; EXPECTED, what 01's rules give every process at every virtual page.
- * BOARD is `small` or a seed. With BIT, one bit (0 to 31) of one table entry is
- * then flipped in RAM: that of the first section page of process 2.
+ * BOARD is `small` or a seed. With ENTRY (0 to 1,023) and BIT (0 to 31), one
+ * bit is then flipped in RAM: in that entry of process 2's leaf table for root
+ * slot 0.
  */
 #include <stdio.h>
 #include <stdlib.h>
@@ -71,14 +72,14 @@ static uint8_t *load(const struct board *board, const struct plan *plan)
 }
 
 static void damage(const struct board *board, const struct plan *plan,
-                   uint8_t *ram, unsigned int bit)
+                   uint8_t *ram, const char *entry, const char *bit)
 {
-    const uint32_t page = board->section[board->process[1].first].address
-                          / PAGE_BYTES;
-    const uint32_t leaf = plan->leaf[1][page / 1024];
+    const uint32_t leaf = board->processes > 1 ? plan->leaf[1][0] : NO_PAGE;
+    const unsigned long e = strtoul(entry, NULL, 0), i = strtoul(bit, NULL, 0);
 
-    ram[(size_t)leaf * PAGE_BYTES + 4 * (page % 1024) + bit / 8] ^=
-        (uint8_t)(1u << bit % 8);
+    if (leaf == NO_PAGE || e > 1023 || i > 31)
+        fail("there is no such bit to flip");
+    ram[(size_t)leaf * PAGE_BYTES + 4 * e + i / 8] ^= (uint8_t)(1u << i % 8);
 }
 
 /* ------------------------------------------------------------- the files */
@@ -95,7 +96,7 @@ static void write_ram(const char *name, const struct board *board,
                       const struct plan *plan, const uint8_t *ram)
 {
     FILE *file = create(name);
-    struct orders orders = { board->pages, board->processes, { 0 } };
+    struct orders orders = { board->processes, { 0 } };
 
     for (uint32_t q = 0; q < board->processes; q++)
         orders.satp[q] = satp_word(plan, q);
@@ -136,13 +137,14 @@ static void write_process(FILE *file, const struct board *board,
 }
 
 static void write_expected(const char *name, const struct board *board,
-                           const struct plan *plan)
+                           const struct plan *plan, const uint8_t *ram)
 {
     FILE *file = create(name);
     const struct expected head = { board->pages, board->processes };
 
     write_all(file, &head, sizeof head);
     write_tables(file, board, plan);
+    write_all(file, ram, (size_t)board->pages * PAGE_BYTES);
     for (uint32_t q = 0; q < board->processes; q++)
         write_process(file, board, plan, q);
     finish(file);
@@ -154,18 +156,18 @@ int main(int argc, char **argv)
     static struct plan plan;
     uint8_t *ram;
 
-    if (argc != 4 && argc != 5)
-        fail("usage: image BOARD RAM EXPECTED [BIT]");
+    if (argc != 4 && argc != 6)
+        fail("usage: image BOARD RAM EXPECTED [ENTRY BIT]");
     if (strcmp(argv[1], "small") == 0)
         small_board(&board);
     else
         generated_board(&board, strtoull(argv[1], NULL, 0));
     make_plan(&board, &plan);
     ram = load(&board, &plan);
-    if (argc == 5)
-        damage(&board, &plan, ram, (unsigned int)strtoul(argv[4], NULL, 0) % 32);
+    if (argc == 6)
+        damage(&board, &plan, ram, argv[4], argv[5]);
     write_ram(argv[2], &board, &plan, ram);
-    write_expected(argv[3], &board, &plan);
+    write_expected(argv[3], &board, &plan, ram);
     free(ram);
     return 0;
 }

@@ -10,7 +10,6 @@
 #define RAM_BYTES      0x10000000 /* 256 MiB, mostly holes in the file */
 #define ORDERS         0x80400000 /* struct orders, from the host */
 #define IMAGE          0x80800000 /* the loaded board's RAM */
-#define PRISTINE       0x82000000 /* the stub's copy of it */
 #define RECORDS        0x84000000 /* struct head, then records */
 #define RECORDS_END    0x8F000000
 
@@ -19,7 +18,6 @@
 
 #ifndef __ASSEMBLER__
 struct orders {
-    unsigned int pages; /* of IMAGE */
     unsigned int processes;
     unsigned int satp[MAX_PROCESSES];
 };
@@ -40,16 +38,13 @@ struct head {
 /*
  * Records are words, the first says which.
  *
- *   PASS     process (from 1), mode: the records of one pass follow
- *   PAGE     virtual address, outcome, and 1,024 words of the page as they
- *            were loaded in this mode, if loads are allowed. The outcome
- *            holds for each page from this one to the next PAGE record.
- *   CHANGED  offset in IMAGE, word found there after the pass, before it was
- *            set back
+ *   PASS  process (from 1), mode: the records of one pass follow
+ *   PAGE  virtual address, outcome, and 1,024 words of the page as they were
+ *         loaded in this mode, if loads are allowed. The outcome holds for
+ *         each page from this one to the next PAGE record.
  */
 #define RECORD_PASS    1
 #define RECORD_PAGE    2
-#define RECORD_CHANGED 3
 
 /* The modes of a pass: S with SUM clear, S with SUM set, U. */
 #define MODE_S         0

@@ -1,6 +1,7 @@
 /*
  * The program that runs on the bare machine: for each process and each mode
- * it sets satp and probes every virtual page, then sets RAM back.
+ * it sets satp and probes every virtual page. It writes no word of the loaded
+ * board's RAM itself, but where a probe stores back what it has just loaded.
  */
 #include "layout.h"
 
@@ -25,8 +26,6 @@ extern char second_page[]; /* room for a copy of the probe's page */
 
 static const struct orders *const orders = (const struct orders *)ORDERS;
 static struct head *const head = (struct head *)RECORDS;
-static unsigned int *const image = (unsigned int *)IMAGE;
-static unsigned int *const pristine = (unsigned int *)PRISTINE;
 static unsigned int *const records_end = (unsigned int *)RECORDS_END;
 
 static int failed(const unsigned int *out)
@@ -68,22 +67,6 @@ static unsigned int *probe_all(unsigned int mode, unsigned int *out)
     return out;
 }
 
-/* Records what the pass changed in the image, and sets it back. */
-static unsigned int *set_back(unsigned int *out)
-{
-    for (unsigned int i = 0; i < orders->pages * (PAGE / 4); i++) {
-        if (image[i] == pristine[i])
-            continue;
-        if (records_end - out < 3)
-            return FULL;
-        *out++ = RECORD_CHANGED;
-        *out++ = 4 * i;
-        *out++ = image[i];
-        image[i] = pristine[i];
-    }
-    return out;
-}
-
 static unsigned int *pass(unsigned int process, unsigned int mode,
                           unsigned int *out)
 {
@@ -95,14 +78,13 @@ static unsigned int *pass(unsigned int process, unsigned int mode,
     set_satp(orders->satp[process - 1]);
     out = probe_all(mode, out);
     set_satp(0);
-    return failed(out) ? out : set_back(out);
+    return out;
 }
 
 void run_passes(void)
 {
     unsigned int *out = (unsigned int *)(head + 1);
 
-    copy_words(pristine, image, orders->pages * (PAGE / 4));
     copy_words((unsigned int *)second_page, (const unsigned int *)probe,
                PAGE / 4);
     __asm__ volatile("fence.i" : : : "memory");

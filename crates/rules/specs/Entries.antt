@@ -1,4 +1,4 @@
--- 01, "Entries": the page table entry of Sv32.
+-- 01, "Entries", and 02, A1: the page table entry of Sv32.
 --
 --    31            10 9   8   7   6   5   4   3   2   1   0
 --   +----------------+-----+---+---+---+---+---+---+---+---+
@@ -16,8 +16,8 @@
 --   RSW  256, 512       the loader leaves them clear
 --   PPN       the physical page number
 --
--- G, A, D and RSW change nothing in how a valid entry reads. A chip that does not set A and D itself faults where a page is used without A,
--- or stored to without D.
+-- G, A, D and RSW change nothing in how a valid entry reads. A chip that does not set A and D itself may fault where a page is used without
+-- A, or stored to without D.
 --
 -- R, W and X all clear in a valid entry: a pointer to the next level's table. Valid clear and the whole word 22: reserved.
 use mathlib.Core.Bool.{Bool}

@@ -36,7 +36,8 @@ pub fn pointer_entry(page: PhysPage) -> u32
     PPN_WEIGHT * (page.0 % PPN_END) + VALID
 }
 
-// The entry of a leaf table for `page`, with these rights. With none of read, write and execute it reads as a pointer.
+// The entry of a leaf table for `page`, with these rights; accessed, and dirty where it can be written. With none of read, write and
+// execute it reads as a pointer.
 pub fn page_entry(page: PhysPage, rights: Rights) -> u32
     ensures { λ r. ⌜ r ≡ pageEntry (page .0 % 0x40_0000) rights ⌝ }
 {
