@@ -64,7 +64,7 @@ small-board = record {
   owners-pages = refl;
 }
 
--- the small board has no such page
+-- a user page that can only be read; the small board has none
 unfoldable pub userReadOnly : Rights
 userReadOnly = record { read = true; write = false; execute = false; user = true }
 
