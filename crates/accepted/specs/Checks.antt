@@ -15,7 +15,7 @@ use Rattle.notation.specs.Lists.{lookup}
 use Rattle.types.specs.declared.Area.{Area}
 use Rattle.types.specs.declared.Verdict.{Verdict}
 use Rattle.rules.specs.Lent.{Image}
-use Rattle.rules.specs.Refusals.{Check, whole, records, refused, accepted, firstRecord, firstRefusal, sectionRefusal, lentChecks, headerChecks, recordChecks, checks, verdict}
+use Rattle.rules.specs.Refusals.{Check, whole, records, refused, accepted, firstRecord, firstRefusal, sectionRefusal, lentChecks, headerChecks, processChecks, blockChecks, contentChecks, checks, verdict}
 use Rattle.laws.specs.Choice.{by-choose}
 use Rattle.laws.specs.Lists.{Every, _and_, every-at}
 
@@ -136,7 +136,7 @@ section-number b flash n =
     by-choose (λ m. m ≤ 12) _ 7 _ (λ _. omega arith) (λ _. by-choose (λ m. m ≤ 12) _ 8 _ (λ _. omega arith) (λ _. one-number _ 9 (omega arith)))
 
 numbered : (x : Image) (ram : Area) → Every Numbered (checks x ram)
-unfolding checks lentChecks headerChecks recordChecks
+unfolding checks lentChecks headerChecks processChecks blockChecks contentChecks
 numbered x ram =
     (omega arith) and (omega arith) and (omega arith) and (omega arith) and (omega arith) and (λ i. one-number _ 6 (omega arith)) and section-number (x .block) _
     and (λ i. one-number _ 10 (omega arith)) and (λ i. one-number _ 11 (omega arith)) and (omega arith) and tt

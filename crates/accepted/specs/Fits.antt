@@ -10,7 +10,7 @@ use Rattle.types.specs.declared.Verdict.{Verdict}
 use Rattle.rules.specs.Lent.{Image, endOf, pagesIn}
 use Rattle.rules.specs.Block.{processCount}
 use Rattle.rules.specs.Order.{pagesNeeded}
-use Rattle.rules.specs.Refusals.{verdict, ramUnfit, outside, countsOutOfBounds, ramTooSmall}
+use Rattle.rules.specs.Refusals.{verdict, ramUnfit, outside, countsOutside, countsOutOfBounds, ramTooSmall}
 use Rattle.laws.specs.Choice.{any-none}
 use Rattle.accepted.specs.NoCause.{NoCause, no-cause}
 
@@ -36,7 +36,7 @@ module _ (x : Image) (ram : Area) (ok : NoCause x ram) where
       record { start-whole = omega arith; length-whole = omega arith }
 
   pub fits : Fits (x .block) (pagesIn ram)
-  unfolding ramUnfit countsOutOfBounds outside ramTooSmall
+  unfolding ramUnfit countsOutOfBounds countsOutside outside ramTooSmall
   fits =
       let e : ram .start + ram .length ≤ 0x1_0000_0000 = ltb-false 0x1_0000_0000 _ (any-none _ (ok .ram-fit) 3) in
       record {

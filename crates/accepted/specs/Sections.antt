@@ -17,8 +17,8 @@ use Rattle.notation.specs.Choice.{choose}
 use Rattle.notation.specs.Lists.{findLast}
 use Rattle.types.specs.declared.Area.{Area}
 use Rattle.rules.specs.Lent.{Image}
-use Rattle.rules.specs.Block.{stackFirst, processCount, sectionCount, sectionsOf, firstSection, sectionRecord, address, size, flashOffset, noCopy, writable, executable, sectionEnd, firstPage, lastPage}
-use Rattle.rules.specs.Refusals.{sectionsBefore, processUnfit, sectionUnfit, hasSection, ownerOf, rangeFirst, rangeLast, sectionMisplaced, sectionPastFlash}
+use Rattle.rules.specs.Block.{stackFirst, processCount, sectionCount, processRecord, sectionsOf, firstSection, sectionRecord, address, size, flashOffset, noCopy, writable, executable, sectionEnd, firstPage, lastPage}
+use Rattle.rules.specs.Refusals.{sectionsBefore, recordUnfit, processUnfit, sectionUnfit, hasSection, ownerOf, rangeFirst, rangeLast, sectionMisplaced, sectionPastFlash}
 use Rattle.rules.specs.Space.{hasPage, sectionMapping, sectionAtPage}
 use Rattle.laws.specs.Choice.{false-not-true, choose-lt, and-both, and-left, and-right, and-rest, any-none}
 use Rattle.laws.specs.Lists.{by-find-last}
@@ -59,18 +59,18 @@ module _ (x : Image) (ram : Area) (ok : NoCause x ram) where
 
   -- 6: the sections of process q come after those of the processes before it, and s has room for them
   first-is : (q : ℕ) → 1 ≤ q → q ≤ processCount b → firstSection b q ≡ sectionsBefore b (q - 1)
-  unfolding processUnfit
+  unfolding processUnfit recordUnfit processRecord
   first-is q lo hi =
       let f : firstSection b (q - 1 + 1) ≡ sectionsBefore b (q - 1) = eqb-true _ _ (not-false _ (any-none _ (ok .process-fit (q - 1) (omega arith)) 2)) in
       let e : q - 1 + 1 ≡ q = omega arith in
       rw e at f
 
   sum-fits : (q : ℕ) → 1 ≤ q → q ≤ processCount b → sectionsBefore b q ≤ sectionCount b
-  unfolding processUnfit
+  unfolding processUnfit recordUnfit processRecord
   sum-fits q lo hi =
-      let f : sectionsBefore b (q - 1 + 1) ≤ sectionCount b = ltb-false _ _ (any-none _ (ok .process-fit (q - 1) (omega arith)) 3) in
+      let f : sectionsBefore b (q - 1) + sectionsOf b (q - 1 + 1) ≤ sectionCount b = ltb-false _ _ (any-none _ (ok .process-fit (q - 1) (omega arith)) 3) in
       let e : q - 1 + 1 ≡ q = omega arith in
-      rw e at f
+      rw (sections-up-to b q lo) (rw e at f)
 
   module _ (q j : ℕ) (lo : 1 ≤ q) (hi : q ≤ processCount b) (has-j : j < sectionsOf b q) where
     record-is : sectionRecord b q j ≡ sectionsBefore b (q - 1) + j
@@ -152,12 +152,13 @@ module _ (x : Image) (ram : Area) (ok : NoCause x ram) where
   ]
 
   last-sum : 1 ≤ processCount b → sectionsBefore b (processCount b) ≡ sectionCount b
-  unfolding processUnfit
+  unfolding processUnfit recordUnfit processRecord
   last-sum some-process =
       let i : ℕ = processCount b - 1 in
       let e : i + 1 ≡ processCount b = omega arith in
-      let f : (eqb (i + 1) (processCount b) && not (eqb (sectionsBefore b (i + 1)) (sectionCount b))) ≡ false = any-none _ (ok .process-fit i (omega arith)) 4 in
-      rw e at (eqb-true (sectionsBefore b (i + 1)) (sectionCount b) (not-false _ (and-rest (eq-eqb (i + 1) (processCount b) e) f)))
+      let n : ℕ = sectionsBefore b i + sectionsOf b (i + 1) in
+      let f : (eqb (i + 1) (processCount b) && not (eqb n (sectionCount b))) ≡ false = any-none _ (ok .process-fit i (omega arith)) 4 in
+      rw e at (sections-before-next b i ∙ eqb-true n (sectionCount b) (not-false _ (and-rest (eq-eqb (i + 1) (processCount b) e) f)))
 
   pub section-owner : (n : ℕ) → 1 ≤ processCount b → n < sectionCount b
       → (1 ≤ ownerOf b n) × (ownerOf b n ≤ processCount b) × (j : ℕ) × (j < sectionsOf b (ownerOf b n)) × (n ≡ sectionRecord b (ownerOf b n) j)

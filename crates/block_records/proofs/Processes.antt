@@ -4,7 +4,7 @@ use mathlib.Core.List.{List}
 use Prim.Native.Nat.{ℕ, _+_, _-_}
 use native.Mathlib.Omega.{arith}
 use Rattle.rules.specs.Block.{entryPoint, firstSection, sectionsOf, kind, processAt}
-use Rattle.block_records.specs.declared.Process.{Process}
+use Rattle.types.specs.declared.Process.{Process}
 use Rattle.block_records.specs.Read.{IsProcess}
 
 pub one-back : (i : ℕ) → i + 1 - 1 ≡ i

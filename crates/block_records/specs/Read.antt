@@ -2,12 +2,12 @@
 use mathlib.Core.Path.{_≡_}
 use mathlib.Core.List.{List}
 use Prim.Native.Nat.{ℕ, _≤_}
+use Rattle.types.specs.declared.Process.{Process}
 use Rattle.rules.specs.Block.{entryPoint, firstSection, sectionsOf, kind}
 use Rattle.rules.specs.Block.{address, size, flashOffset, flags, noCopy, writable, executable, firstPage, lastPage}
 use Rattle.rules.specs.Block.{regionStart, regionPages, regionArea}
 use Rattle.rules.specs.Lent.{endOf}
 use Rattle.rules.specs.Order.{pagesTaken}
-use Rattle.block_records.specs.declared.Process.{Process}
 use Rattle.block_records.specs.declared.Section.{Section}
 use Rattle.block_records.specs.declared.Region.{Region}
 

@@ -5,15 +5,8 @@ ghost use Rattle.notation.specs.Words.{word};
 ghost use Rattle.rules.specs.Block.{stackPages, sectionAt};
 ghost use Rattle.rules.specs.Contents.{stackPointer};
 ghost use Rattle.block_records.specs.Read.{IsProcess, IsSection, IsRegion};
+use types::Process;
 use types::VirtPage;
-
-// A process record.
-pub struct Process {
-    pub entry_point: u32,
-    pub first_section: u32,
-    pub sections: u32,
-    pub kind: u32,
-}
 
 // A section record, its flags by name, its virtual pages, and how many pages it takes in RAM.
 pub struct Section {

@@ -1,9 +1,7 @@
 // Refusals 1 to 5: RAM's place and size, a short block, the format, the counts, and the layout. Each function answers for any input.
-ghost use mathlib.Core.List.{[], _∷_};
 ghost use mathlib.Core.Path.{_≡_};
-ghost use Rattle.notation.specs.Choice.{any};
 ghost use Rattle.rules.specs.Lent.{areaOf};
-ghost use Rattle.rules.specs.Refusals.{ramUnfit, blockTooShort, formatUnknown, outside, countsOutOfBounds, layoutNotTight};
+ghost use Rattle.rules.specs.Refusals.{ramUnfit, blockTooShort, formatUnknown, outside, countsOutside, countsOutOfBounds, layoutNotTight};
 
 // Refusal 1, for RAM of `length` bytes from `start` on.
 pub fn ram_unfit(start: u32, length: usize) -> bool
@@ -36,7 +34,7 @@ pub fn format_unknown(block: &[u8]) -> bool
 }
 
 // n is outside the bounds lo to hi.
-fn is_outside(lo: u32, hi: u32, n: u32) -> bool
+fn is_outside(lo: usize, hi: usize, n: usize) -> bool
     ensures { λ r. ⌜ r ≡ outside lo hi n ⌝ }
 {
     if n < lo {
@@ -46,8 +44,8 @@ fn is_outside(lo: u32, hi: u32, n: u32) -> bool
 }
 
 // p, s or r is outside its bounds.
-fn are_outside(p: u32, s: u32, r: u32) -> bool
-    ensures { λ x. ⌜ x ≡ any (outside 1 16 p ∷ outside 1 64 s ∷ outside 0 32 r ∷ []) ⌝ }
+pub fn counts_outside(p: usize, s: usize, r: usize) -> bool
+    ensures { λ x. ⌜ x ≡ countsOutside p s r ⌝ }
 {
     if is_outside(1, 16, p) {
         return true;
@@ -62,10 +60,10 @@ fn are_outside(p: u32, s: u32, r: u32) -> bool
 pub fn counts_out_of_bounds(block: &[u8]) -> bool
     ensures { λ r. ⌜ r ≡ countsOutOfBounds (now (block .entry)) ⌝ }
 {
-    are_outside(
-        block_header::process_count(block),
-        block_header::section_count(block),
-        block_header::region_count(block),
+    counts_outside(
+        block_header::process_count(block) as usize,
+        block_header::section_count(block) as usize,
+        block_header::region_count(block) as usize,
     )
 }
 

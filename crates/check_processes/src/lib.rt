@@ -1,13 +1,12 @@
 // Refusals 6 and 10: process records and entry points. Each function answers for any block and any number.
 use numbers::both;
-ghost use mathlib.Core.Bool.{not, _&&_};
-ghost use mathlib.Core.List.{[], _∷_};
+use types::Process;
+ghost use mathlib.Core.Bool.{_&&_};
 ghost use mathlib.Core.Path.{_≡_};
 ghost use Prim.Native.Nat.{_+_, _*_, _≤_};
-ghost use lib.Dec.{eqb, leb, ltb};
-ghost use Rattle.notation.specs.Choice.{any};
+ghost use lib.Dec.{leb, ltb};
 ghost use Rattle.rules.specs.Block.{address, executable, sectionEnd};
-ghost use Rattle.rules.specs.Refusals.{sectionsBefore, processUnfit, entryPointOutside};
+ghost use Rattle.rules.specs.Refusals.{sectionsBefore, recordUnfit, processUnfit, entryPointOutside};
 
 // The sections of the first n process records.
 fn sections_before(block: &[u8], n: u32) -> u64
@@ -23,47 +22,39 @@ fn sections_before(block: &[u8], n: u32) -> u64
     sum
 }
 
-// Refusal 6 of what a process record holds: `before` is the sum of the section counts before it, `sum` with its own, `all` is s.
-fn record_unfit(
-    kind: u32,
-    first: u32,
-    sections: u32,
-    before: u64,
-    sum: u64,
-    all: u32,
-    last: bool,
-) -> bool
-    ensures { λ r. ⌜ r ≡ any (not (eqb kind 0) ∷ eqb sections 0 ∷ not (eqb first before) ∷ ltb all sum ∷ (last && not (eqb sum all)) ∷ []) ⌝ }
+// Refusal 6, for a process record, number i of p: `before` is the sum of the section counts before it.
+pub fn record_unfit(process: Process, i: u32, p: u32, before: u64, s: u32) -> bool
+    ensures { λ r. ⌜ r ≡ recordUnfit process i p before s ⌝ }
 {
-    if kind != 0 {
+    if process.kind != 0 {
         return true;
     }
-    if sections == 0 {
+    if process.sections == 0 {
         return true;
     }
-    if first as u64 != before {
+    if process.first_section as u64 != before {
         return true;
     }
-    if (all as u64) < sum {
+    // `before` is a number of 32 bits here.
+    let sum = before + process.sections as u64;
+    if (s as u64) < sum {
         return true;
     }
-    both(last, sum != all as u64)
+    both(i as u64 + 1 == p as u64, sum != s as u64)
 }
 
-// Refusal 6, for process record i.
+// Refusal 6, for process record i of a block.
 pub fn process_unfit(block: &[u8], i: u32) -> bool
     ensures { λ r. ⌜ r ≡ processUnfit (now (block .entry)) i ⌝ }
 {
     let process = block_records::read_process_record(block, i);
     let before = sections_before(block, i);
     record_unfit(
-        process.kind,
-        process.first_section,
-        process.sections,
+        process,
+        i,
+        block_header::process_count(block),
         before,
-        before + process.sections as u64,
         block_header::section_count(block),
-        i as u64 + 1 == block_header::process_count(block) as u64,
     )
 }
 

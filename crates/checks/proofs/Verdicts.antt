@@ -1,7 +1,7 @@
 -- Laws of the first refusal.
 use mathlib.Core.Path.{_≡_, refl, sym, _∙_}
 use mathlib.Core.Bool.{Bool, true, false}
-use mathlib.Core.List.{List, [], _∷_, _++_}
+use mathlib.Core.List.{List, [], _∷_, _++_, append-assoc}
 use Prim.Native.Nat.{ℕ, zero, suc, _+_, _-_, _/_, _≤_, _<_}
 use native.Mathlib.Numerals.{add-one}
 use native.Mathlib.Omega.{arith}
@@ -14,8 +14,8 @@ use Rattle.types.specs.declared.Area.{Area}
 use Rattle.types.specs.declared.Verdict.{Verdict}
 use Rattle.rules.specs.Lent.{Image, pagesIn}
 use Rattle.rules.specs.Block.{processCount}
-use Rattle.rules.specs.Refusals.{ramUnfit, outside, countsOutOfBounds, ramTooSmall, Check, whole, records, refused, accepted, firstRecord, firstRefusal}
-use Rattle.rules.specs.Refusals.{lentChecks, headerChecks, recordChecks, checks, verdict}
+use Rattle.rules.specs.Refusals.{ramUnfit, outside, countsOutside, countsOutOfBounds, ramTooSmall, Check, whole, records, refused, accepted, firstRecord, firstRefusal}
+use Rattle.rules.specs.Refusals.{lentChecks, headerChecks, processChecks, blockChecks, contentChecks, checks, verdict}
 use Rattle.checks.specs.declared.Scan.the-variants.{Processes, Sections, EntryPoints, Regions}
 use Rattle.checks.specs.Scan.{recordCount, refusalAt, scanOf}
 
@@ -72,20 +72,21 @@ unfolding firstRefusal
 one-whole n c = refl
 
 module _ (x : Image) (ram : Area) where
-  pub records-then : firstRefusal (recordChecks x ram)
+  pub records-then : firstRefusal (processChecks (x .block) ++ contentChecks x ram)
       ≡ firstOf (firstRefusal (scanOf Processes x ram ∷ []))
       (firstOf (firstRefusal (scanOf Sections x ram ∷ []))
       (firstOf (firstRefusal (scanOf EntryPoints x ram ∷ []))
       (firstOf (firstRefusal (scanOf Regions x ram ∷ []))
       (choose (ramTooSmall (x .block) (pagesIn ram .pages)) (refused 12 0) accepted))))
-  unfolding recordChecks recordCount refusalAt
+  unfolding processChecks contentChecks recordCount refusalAt
   records-then = step _ _ _ tt (step _ _ _ tt (step _ _ _ tt (step _ _ _ tt (one-whole 12 _))))
 
-  pub verdict-then : verdict x ram ≡ firstOf (firstRefusal (lentChecks ram)) (firstOf (firstRefusal (headerChecks (x .block))) (firstRefusal (recordChecks x ram)))
-  unfolding verdict checks
+  pub verdict-then : verdict x ram ≡ firstOf (firstRefusal (lentChecks ram)) 
+      (firstOf (firstRefusal (headerChecks (x .block))) (firstRefusal (processChecks (x .block) ++ contentChecks x ram)))
+  unfolding verdict checks blockChecks
   verdict-then =
       first-of-both (lentChecks ram) _ (unfold lentChecks in (omega arith) and tt)
-      ∙ rw (first-of-both (headerChecks (x .block)) (recordChecks x ram) (unfold headerChecks in (omega arith) and (omega arith) and (omega arith) and (omega arith) and tt))
+      ∙ rw (append-assoc (headerChecks (x .block)) (processChecks (x .block)) (contentChecks x ram), first-of-both (headerChecks (x .block)) _ (unfold headerChecks in (omega arith) and (omega arith) and (omega arith) and (omega arith) and tt))
 
 -- the test of a verdict that was found: the others count, or it does
 module _ (cs : List Check) (v : Verdict) (e : v ≡ firstRefusal cs) where
@@ -106,7 +107,7 @@ unfolding lentChecks firstRefusal ramUnfit
 few-pages ram v e z = ltb-false _ _ (any-none _ (whole-not-given _ 0 _ (rw e at z) .0) 1)
 
 pub few-processes : (b : List ℕ) (v : Verdict) → v ≡ firstRefusal (headerChecks b) → v .number ≡ 0 → processCount b ≤ 16
-unfolding headerChecks firstRefusal countsOutOfBounds outside
+unfolding headerChecks firstRefusal countsOutOfBounds countsOutside outside
 few-processes b v e z =
     let two = whole-not-given _ 1 _ (rw e at z) in
     let three = whole-not-given _ 2 _ (two .1) in

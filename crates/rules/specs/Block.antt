@@ -7,6 +7,7 @@ use Rattle.notation.specs.Choice.{choose}
 use Rattle.notation.specs.Lists.{sum}
 use Rattle.notation.specs.Words.{word, bit}
 use Rattle.types.specs.declared.Area.{Area}
+use Rattle.types.specs.declared.Process.{Process}
 use Rattle.rules.specs.Lent.{areaOf}
 
 -- THE HEADER: eight words
@@ -37,15 +38,26 @@ regionCount b = word b 24
 unfoldable pub regionOffset : List ℕ → ℕ
 regionOffset b = word b 28
 
--- RECORDS LIE TIGHT: process records from byte 32 on, section records after them, region records after those
+-- RECORDS LIE TIGHT: process records from byte 32 on, section records after them, region records after those. For p, s and r of
+-- them: where the section records start, where the region records start, and the length
+abbrev pub sectionsFrom : ℕ → ℕ
+sectionsFrom p = 32 + 16 * p
+
+abbrev pub regionsFrom : ℕ → ℕ → ℕ
+regionsFrom p s = sectionsFrom p + 16 * s
+
+abbrev pub lengthFor : ℕ → ℕ → ℕ → ℕ
+lengthFor p s r = regionsFrom p s + 8 * r
+
+-- for the counts of a block
 unfoldable pub sectionsAt : List ℕ → ℕ
-sectionsAt b = 32 + 16 * processCount b
+sectionsAt b = sectionsFrom (processCount b)
 
 unfoldable pub regionsAt : List ℕ → ℕ
-regionsAt b = sectionsAt b + 16 * sectionCount b
+regionsAt b = regionsFrom (processCount b) (sectionCount b)
 
 unfoldable pub tightLength : List ℕ → ℕ
-tightLength b = regionsAt b + 8 * regionCount b
+tightLength b = lengthFor (processCount b) (sectionCount b) (regionCount b)
 
 -- A PROCESS RECORD: four words. Record i is process i + 1, so process q is record q - 1; process 1 is the kernel
 unfoldable pub processAt : ℕ → ℕ
@@ -62,6 +74,9 @@ sectionsOf b q = word b (processAt q + 8)
 
 unfoldable pub kind : List ℕ → ℕ → ℕ
 kind b q = word b (processAt q + 12)
+
+unfoldable pub processRecord : List ℕ → ℕ → Process
+processRecord b q = record { «entry_point» = entryPoint b q; «first_section» = firstSection b q; sections = sectionsOf b q; kind = kind b q }
 
 -- its stack reservation: four pages that end at 0x80000000, none for the kernel; and the first of them
 unfoldable pub stackPages : List ℕ → ℕ → ℕ
@@ -136,5 +151,5 @@ ioPages b = ioPagesOf b (regionCount b)
 
 -- all definitions of this file, to be unfolded as one
 unfoldable pub block-rules : Unit {0}
-unfolding format lengthField processCount processOffset sectionCount sectionOffset regionCount regionOffset sectionsAt regionsAt tightLength processAt entryPoint firstSection sectionsOf kind stackPages stackFirst sectionRecord sectionAt address size flashOffset flags noCopy writable executable sectionEnd firstPage lastPage pageCount regionAt regionStart regionPages regionArea ioPagesOf ioPages
+unfolding format lengthField processCount processOffset sectionCount sectionOffset regionCount regionOffset sectionsAt regionsAt tightLength processAt entryPoint firstSection sectionsOf kind processRecord stackPages stackFirst sectionRecord sectionAt address size flashOffset flags noCopy writable executable sectionEnd firstPage lastPage pageCount regionAt regionStart regionPages regionArea ioPagesOf ioPages
 block-rules = tt

@@ -10,5 +10,6 @@ pub mod Load
 pub mod Reader
 pub mod Sees
 pub mod Compare
+pub mod Writer
 pub mod Examples
 pub mod SmallBoard

@@ -8,10 +8,11 @@ use lib.Dec.{leb, ltb, eqb}
 use Rattle.notation.specs.Choice.{choose, any}
 use Rattle.notation.specs.Lists.{sum, findLast, exists}
 use Rattle.types.specs.declared.Area.{Area}
+use Rattle.types.specs.declared.Process.{Process}
 use Rattle.types.specs.declared.Verdict.{Verdict}
 use Rattle.rules.specs.Lent.{Image, endOf, pagesIn, shareAddress}
 use Rattle.rules.specs.Block.{format, lengthField, processCount, processOffset, sectionCount, sectionOffset, regionCount, regionOffset, sectionsAt, regionsAt, tightLength}
-use Rattle.rules.specs.Block.{entryPoint, firstSection, sectionsOf, kind, stackFirst, sectionRecord, address, size, flashOffset, flags, noCopy, writable, executable, sectionEnd, firstPage, lastPage}
+use Rattle.rules.specs.Block.{entryPoint, firstSection, sectionsOf, processRecord, stackFirst, sectionRecord, address, size, flashOffset, flags, noCopy, writable, executable, sectionEnd, firstPage, lastPage}
 use Rattle.rules.specs.Block.{regionStart, regionPages, regionArea, ioPagesOf}
 use Rattle.rules.specs.Order.{pagesNeeded}
 
@@ -36,13 +37,13 @@ formatUnknown b = not (eqb (format b) 1)
 unfoldable pub outside : ℕ → ℕ → ℕ → Bool
 outside lo hi n = any (ltb n lo ∷ ltb hi n ∷ [])
 
+-- p, s or r is outside its bounds
+unfoldable pub countsOutside : ℕ → ℕ → ℕ → Bool
+countsOutside p s r = any (outside 1 16 p ∷ outside 1 64 s ∷ outside 0 32 r ∷ [])
+
 -- 4
 unfoldable pub countsOutOfBounds : List ℕ → Bool
-countsOutOfBounds b = any
-    (outside 1 16 (processCount b)
-    ∷ outside 1 64 (sectionCount b)
-    ∷ outside 0 32 (regionCount b)
-    ∷ [])
+countsOutOfBounds b = countsOutside (processCount b) (sectionCount b) (regionCount b)
 
 -- 5: an offset is not the tight one, or the length field or the true length is not the tight length
 unfoldable pub layoutNotTight : List ℕ → Bool
@@ -58,16 +59,20 @@ layoutNotTight b = any
 unfoldable pub sectionsBefore : List ℕ → ℕ → ℕ
 sectionsBefore b n = sum n (λ i. sectionsOf b (i + 1))
 
--- 6, for process record i: its kind is not 0, its section count is 0, its first section is not the sum of the counts before it, its
--- sum passes s, or it is the last record and its sum is not s
-unfoldable pub processUnfit : List ℕ → ℕ → Bool
-processUnfit b i = any
-    (not (eqb (kind b (i + 1)) 0)
-    ∷ eqb (sectionsOf b (i + 1)) 0
-    ∷ not (eqb (firstSection b (i + 1)) (sectionsBefore b i))
-    ∷ ltb (sectionCount b) (sectionsBefore b (i + 1))
-    ∷ (eqb (i + 1) (processCount b) && not (eqb (sectionsBefore b (i + 1)) (sectionCount b)))
+-- 6, for a process record, number i of p, where `before` is the sum of the section counts before it: its kind is not 0, its section
+-- count is 0, its first section is not that sum, with its own count the sum passes s, or it is the last record and that sum is not s
+unfoldable pub recordUnfit : Process → ℕ → ℕ → ℕ → ℕ → Bool
+recordUnfit r i p before s = any
+    (not (eqb (r .kind) 0)
+    ∷ eqb (r .sections) 0
+    ∷ not (eqb (r .«first_section») before)
+    ∷ ltb s (before + r .sections)
+    ∷ (eqb (i + 1) p && not (eqb (before + r .sections) s))
     ∷ [])
+
+-- 6, for process record i of a block
+unfoldable pub processUnfit : List ℕ → ℕ → Bool
+processUnfit b i = recordUnfit (processRecord b (i + 1)) i (processCount b) (sectionsBefore b i) (sectionCount b)
 
 -- 7, for section record n: its size is 0, a flag above 4 is set, writable and executable are both set, or NOCOPY has a flash offset
 -- other than 0
@@ -163,7 +168,7 @@ unfoldable pub sectionRefusal : List ℕ → ℕ → ℕ → ℕ
 sectionRefusal b flash n =
     choose (sectionUnfit b n) 7 (choose (sectionMisplaced b n) 8 (choose (sectionPastFlash b flash n) 9 0))
 
--- ALL CHECKS, in 01's order: of what is lent, of the block's header, of its records and the room for them
+-- ALL CHECKS, in 01's order: of what is lent, of the block alone, of what its records ask for and the room for it
 unfoldable pub lentChecks : Area → List Check
 lentChecks ram = whole 1 (ramUnfit ram) ∷ []
 
@@ -175,24 +180,35 @@ headerChecks b =
     ∷ whole 5 (layoutNotTight b)
     ∷ []
 
-unfoldable pub recordChecks : Image → Area → List Check
-recordChecks x ram =
+unfoldable pub processChecks : List ℕ → List Check
+processChecks b = records (processCount b) (λ i. choose (processUnfit b i) 6 0) ∷ []
+
+-- 2 to 6
+unfoldable pub blockChecks : List ℕ → List Check
+blockChecks b = headerChecks b ++ processChecks b
+
+-- 7 to 12
+unfoldable pub contentChecks : Image → Area → List Check
+contentChecks x ram =
     let b = x .block in
-    records (processCount b) (λ i. choose (processUnfit b i) 6 0)
-    ∷ records (sectionCount b) (sectionRefusal b (length (x .flash)))
+    records (sectionCount b) (sectionRefusal b (length (x .flash)))
     ∷ records (processCount b) (λ i. choose (entryPointOutside b i) 10 0)
     ∷ records (regionCount b) (λ i. choose (regionUnfit b ram i) 11 0)
     ∷ whole 12 (ramTooSmall b (pagesIn ram .pages))
     ∷ []
 
 unfoldable pub checks : Image → Area → List Check
-checks x ram = lentChecks ram ++ (headerChecks (x .block) ++ recordChecks x ram)
+checks x ram = lentChecks ram ++ (blockChecks (x .block) ++ contentChecks x ram)
 
 -- the first in this order wins
 unfoldable pub verdict : Image → Area → Verdict
 verdict x ram = firstRefusal (checks x ram)
 
+-- a block draws none of 2 to 6
+unfoldable pub wellFormed : List ℕ → Bool
+wellFormed b = eqb (firstRefusal (blockChecks b) .number) 0
+
 -- all definitions of this file, to be unfolded as one
 unfoldable pub refusal-rules : Unit {0}
-unfolding ramUnfit blockTooShort formatUnknown outside countsOutOfBounds layoutNotTight sectionsBefore processUnfit sectionUnfit hasSection ownerOf rangeFirst rangeLast sectionMisplaced sectionPastFlash entryPointOutside regionUnfit ramTooSmall refused accepted firstRecord firstRefusal sectionRefusal lentChecks headerChecks recordChecks checks verdict
+unfolding ramUnfit blockTooShort formatUnknown outside countsOutside countsOutOfBounds layoutNotTight sectionsBefore recordUnfit processUnfit sectionUnfit hasSection ownerOf rangeFirst rangeLast sectionMisplaced sectionPastFlash entryPointOutside regionUnfit ramTooSmall refused accepted firstRecord firstRefusal sectionRefusal lentChecks headerChecks processChecks blockChecks contentChecks checks verdict wellFormed
 refusal-rules = tt

@@ -63,6 +63,14 @@ pub enum View {
     Outside(Rights),
 }
 
+// A process record of the boot block: its four words.
+pub struct Process {
+    pub entry_point: u32,
+    pub first_section: u32,
+    pub sections: u32,
+    pub kind: u32,
+}
+
 // Number 0 and place 0: it boots. Else the number of the refusal, and its place: the record it was found at, counted from 0; 0 where
 // it is of no record.
 pub struct Verdict {
@@ -77,4 +85,11 @@ pub struct Answer {
     pub taken: u32,
     pub free: u32,
     pub tracker: u32,
+}
+
+// The answer of the block writer: number and place as in a verdict, and the length of the block; in a refusal it is 0.
+pub struct Written {
+    pub number: u32,
+    pub place: u32,
+    pub length: u32,
 }

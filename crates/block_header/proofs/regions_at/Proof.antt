@@ -1,13 +1,8 @@
 use native.Mathlib.Omega.{arith}
-use native.Mathlib.Omega.{arith}
 use borrow.Author.Needs.{needs}
-use Rattle.rules.specs.Block.{regionsAt}
+use Rattle.rules.specs.Block.{sectionsAt, regionsAt}
 use Rattle.block_header.proofs.regions_at.Statement.{statement}
 use Rattle.block_header.proofs.regions_at.Tie as tie
-use Rattle.block_header.proofs.regions_at.Reads as reads
-use Rattle.block_header.proofs.regions_at.Lts as lts
-use Rattle.block_header.proofs.section_count.Reads as section-count-reads
-use Rattle.block_header.proofs.sections_at.Reads as sections-at-reads
 
 sections-at-requires : tie.Need-sections-at-requires
 sections-at-requires c κs = search needs
@@ -25,7 +20,7 @@ add-result : tie.Need-add-result
 add-result c = search needs
 
 returns : tie.Need-returns
-unfolding regionsAt
+unfolding sectionsAt regionsAt
 returns c = (omega arith, omega arith)
 
 pub regions-at-spec : {M : Type 1} → statement M

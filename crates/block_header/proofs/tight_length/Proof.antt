@@ -1,13 +1,8 @@
 use native.Mathlib.Omega.{arith}
-use native.Mathlib.Omega.{arith}
 use borrow.Author.Needs.{needs}
-use Rattle.rules.specs.Block.{tightLength}
+use Rattle.rules.specs.Block.{regionsAt, tightLength}
 use Rattle.block_header.proofs.tight_length.Statement.{statement}
 use Rattle.block_header.proofs.tight_length.Tie as tie
-use Rattle.block_header.proofs.tight_length.Reads as reads
-use Rattle.block_header.proofs.tight_length.Lts as lts
-use Rattle.block_header.proofs.region_count.Reads as region-count-reads
-use Rattle.block_header.proofs.regions_at.Reads as regions-at-reads
 
 regions-at-requires : tie.Need-regions-at-requires
 regions-at-requires c κs = search needs
@@ -25,7 +20,7 @@ add-result : tie.Need-add-result
 add-result c = search needs
 
 returns : tie.Need-returns
-unfolding tightLength
+unfolding regionsAt tightLength
 returns c = (omega arith, omega arith)
 
 pub tight-length-spec : {M : Type 1} → statement M
