@@ -17,7 +17,7 @@ use Rattle.rules.specs.Block.{processCount}
 use Rattle.rules.specs.Refusals.{ramUnfit, outside, countsOutside, countsOutOfBounds, ramTooSmall, Check, whole, records, refused, accepted, firstRecord, firstRefusal}
 use Rattle.rules.specs.Refusals.{lentChecks, headerChecks, processChecks, blockChecks, contentChecks, checks, verdict}
 use Rattle.checks.specs.declared.Scan.the-variants.{Processes, Sections, EntryPoints, Regions}
-use Rattle.checks.specs.Scan.{recordCount, refusalAt, scanOf}
+use Rattle.checks.specs.Scan.{recordCount, refusalAt, scanOf, recordChecks}
 
 -- A SCAN OF RECORDS k TO n - 1, where f k is the number at record k
 module _ (f : ℕ → ℕ) (rest : Verdict) (k n : ℕ) where
@@ -72,18 +72,17 @@ unfolding firstRefusal
 one-whole n c = refl
 
 module _ (x : Image) (ram : Area) where
-  pub records-then : firstRefusal (processChecks (x .block) ++ contentChecks x ram)
+  pub records-then : firstRefusal (recordChecks x ram)
       ≡ firstOf (firstRefusal (scanOf Processes x ram ∷ []))
       (firstOf (firstRefusal (scanOf Sections x ram ∷ []))
       (firstOf (firstRefusal (scanOf EntryPoints x ram ∷ []))
       (firstOf (firstRefusal (scanOf Regions x ram ∷ []))
       (choose (ramTooSmall (x .block) (pagesIn ram .pages)) (refused 12 0) accepted))))
-  unfolding processChecks contentChecks recordCount refusalAt
+  unfolding recordChecks processChecks contentChecks recordCount refusalAt
   records-then = step _ _ _ tt (step _ _ _ tt (step _ _ _ tt (step _ _ _ tt (one-whole 12 _))))
 
-  pub verdict-then : verdict x ram ≡ firstOf (firstRefusal (lentChecks ram)) 
-      (firstOf (firstRefusal (headerChecks (x .block))) (firstRefusal (processChecks (x .block) ++ contentChecks x ram)))
-  unfolding verdict checks blockChecks
+  pub verdict-then : verdict x ram ≡ firstOf (firstRefusal (lentChecks ram)) (firstOf (firstRefusal (headerChecks (x .block))) (firstRefusal (recordChecks x ram)))
+  unfolding verdict checks blockChecks recordChecks
   verdict-then =
       first-of-both (lentChecks ram) _ (unfold lentChecks in (omega arith) and tt)
       ∙ rw (append-assoc (headerChecks (x .block)) (processChecks (x .block)) (contentChecks x ram), first-of-both (headerChecks (x .block)) _ (unfold headerChecks in (omega arith) and (omega arith) and (omega arith) and (omega arith) and tt))

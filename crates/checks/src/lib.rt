@@ -1,13 +1,13 @@
 // All of 01's refusals: the first in 01's order that is given. What is lent here is only read.
 use types::Area;
 use types::Verdict;
-ghost use mathlib.Core.List.{[], _∷_, _++_};
+ghost use mathlib.Core.List.{[], _∷_};
 ghost use mathlib.Core.Path.{_≡_};
 ghost use Prim.Native.Nat.{_/_, _≤_};
 ghost use Rattle.rules.specs.Lent.{imageOf, areaOf};
 ghost use Rattle.rules.specs.Block.{processCount};
-ghost use Rattle.rules.specs.Refusals.{ramTooSmall, refused, firstRefusal, lentChecks, headerChecks, processChecks, contentChecks, verdict};
-ghost use Rattle.checks.specs.Scan.{recordCount, refusalAt, scanOf};
+ghost use Rattle.rules.specs.Refusals.{ramTooSmall, refused, firstRefusal, lentChecks, headerChecks, verdict};
+ghost use Rattle.checks.specs.Scan.{recordCount, refusalAt, scanOf, recordChecks};
 
 // A verdict; `refused(0, 0)` is the one that boots.
 fn refused(number: u32, place: u32) -> Verdict
@@ -104,7 +104,7 @@ fn header_refusal(block: &[u8]) -> Verdict
 // Refusals 6 to 12, in order, where 1 and 4 are not given.
 fn record_refusal(block: &[u8], flash: &[u8], ram: Area) -> Verdict
     requires { ⌜ (ram .length / 4096 ≤ 4096) × (processCount (now block) ≤ 16) ⌝ }
-    ensures { λ r. ⌜ r ≡ firstRefusal (processChecks (now (block .entry)) ++ contentChecks (imageOf (now (block .entry)) (now (flash .entry))) ram) ⌝ }
+    ensures { λ r. ⌜ r ≡ firstRefusal (recordChecks (imageOf (now (block .entry)) (now (flash .entry))) ram) ⌝ }
 {
     let process = scan_refusal(Scan::Processes, block, flash, ram);
     if process.number != 0 {

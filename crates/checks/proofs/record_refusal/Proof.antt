@@ -1,10 +1,10 @@
 use mathlib.Core.Path.{_≡_, sym, _∙_}
-use mathlib.Core.List.{_++_}
 use Prim.Native.Nat.{_/_}
 use borrow.Author.Needs.{needs}
 use Rattle.notation.specs.Choice.{choose}
 use Rattle.rules.specs.Lent.{imageOf}
-use Rattle.rules.specs.Refusals.{ramTooSmall, refused, accepted, firstRefusal, processChecks, contentChecks}
+use Rattle.rules.specs.Refusals.{ramTooSmall, refused, accepted, firstRefusal}
+use Rattle.checks.specs.Scan.{recordChecks}
 use Rattle.checks.proofs.Verdicts.{records-then, passes, refuses}
 use Rattle.checks.proofs.record_refusal.Statement.{statement}
 use Rattle.checks.proofs.record_refusal.Tie as tie
@@ -61,7 +61,7 @@ returns-4 c =
 past-scans : (c : tie.Else4)
     → let p = c .before .before .before .before .before .before .before .before .before in
     let args = p .before .before .before .before .before .args in
-    firstRefusal (processChecks (args .block .now) ++ contentChecks (imageOf (args .block .now) (args .flash .now)) (args .ram))
+    firstRefusal (recordChecks (imageOf (args .block .now) (args .flash .now)) (args .ram))
     ≡ choose (ramTooSmall (args .block .now) (args .ram .length / 4096)) (refused 12 0) accepted
 unfolding choose
 past-scans c =
