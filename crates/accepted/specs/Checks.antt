@@ -37,14 +37,14 @@ pub record FirstCause (cs : List Check) (n place : ℕ) : Type 0 where
   pub earlier : (k : ℕ) → k < step → (c : Check) → lookup cs k ≡ some c → Passes c
   pub cause : Refuses check n place
 
--- the numbers of a check are 1 to 12
-abbrev pub Numbered : Check → Type 0
-Numbered (whole n c) = (1 ≤ n) × (n ≤ 12)
-Numbered (records n f) = (i : ℕ) → f i ≤ 12
+-- the numbers of a check are 1 to `top`
+abbrev pub Numbered : ℕ → Check → Type 0
+Numbered top (whole n c) = (1 ≤ n) × (n ≤ top)
+Numbered top (records n f) = (i : ℕ) → f i ≤ top
 
 -- the verdict on a list of checks: all pass, or one is the first that does not
-abbrev pub Decided : List Check → Verdict → Type 0
-Decided cs v = (Every Passes cs × (v ≡ accepted)) ⊎ ((1 ≤ v .number) × (v .number ≤ 12) × FirstCause cs (v .number) (v .place))
+abbrev pub Decided : ℕ → List Check → Verdict → Type 0
+Decided top cs v = (Every Passes cs × (v ≡ accepted)) ⊎ ((1 ≤ v .number) × (v .number ≤ top) × FirstCause cs (v .number) (v .place))
 
 -- the first record with a refusal, or none has one
 abbrev Scanned : (ℕ → ℕ) → ℕ → ℕ → Verdict → Verdict → Type 0
@@ -72,10 +72,10 @@ scanned f k (suc n) rest =
     )
 
 -- a check that passes, before the others
-pass : {c : Check} {cs : List Check} {v : Verdict} → Passes c → Decided cs v → Decided (c ∷ cs) v
+pass : {top : ℕ} {c : Check} {cs : List Check} {v : Verdict} → Passes c → Decided top cs v → Decided top (c ∷ cs) v
 unfolding lookup
 pass p (inl d) = inl ((p, d .0), d .1)
-pass {c} {cs} p (inr d) =
+pass {c = c} {cs} p (inr d) =
     inr (
       d .0,
       d .1,
@@ -94,11 +94,11 @@ pass {c} {cs} p (inr d) =
     same-check : (c c′ : Check) → some c ≡ some c′ → Passes c → Passes c′
     same-check c c′ e p = let q : c ≡ c′ = cc in rw q at p
 
-decided : (cs : List Check) → Every Numbered cs → Decided cs (firstRefusal cs)
+decided : (top : ℕ) (cs : List Check) → Every (Numbered top) cs → Decided top cs (firstRefusal cs)
 unfolding firstRefusal lookup refused
-decided [] ns = inl (tt, refl)
-decided (whole n c ∷ cs) ns =
-    by-choose (Decided (whole n c ∷ cs)) c _ _
+decided top [] ns = inl (tt, refl)
+decided top (whole n c ∷ cs) ns =
+    by-choose (Decided top (whole n c ∷ cs)) c _ _
     (λ e. inr (
       ns .0 .0,
       ns .0 .1,
@@ -110,11 +110,11 @@ decided (whole n c ∷ cs) ns =
         cause = (e, refl, refl);
       },
     ))
-    (λ e. pass e (decided cs (ns .1)))
-decided (records n f ∷ cs) ns = go (firstRecord f 0 n (firstRefusal cs)) (scanned f 0 n (firstRefusal cs)) (decided cs (ns .1))
+    (λ e. pass {top = top} e (decided top cs (ns .1)))
+decided top (records n f ∷ cs) ns = go (firstRecord f 0 n (firstRefusal cs)) (scanned f 0 n (firstRefusal cs)) (decided top cs (ns .1))
   where
-    go : (v : Verdict) → Scanned f 0 n (firstRefusal cs) v → Decided cs (firstRefusal cs) → Decided (records n f ∷ cs) v
-    go v (inl s) d = rw (s .1) (pass (λ i h. s .0 i (omega arith) (omega arith)) d)
+    go : (v : Verdict) → Scanned f 0 n (firstRefusal cs) v → Decided top cs (firstRefusal cs) → Decided top (records n f ∷ cs) v
+    go v (inl s) d = rw (s .1) (pass {top = top} (λ i h. s .0 i (omega arith) (omega arith)) d)
     go v (inr s) d = rw (s .5) (inr (
       omega (arith, s .3),
       ns .0 (s .0),
@@ -135,7 +135,7 @@ unfolding sectionRefusal
 section-number b flash n =
     by-choose (λ m. m ≤ 12) _ 7 _ (λ _. omega arith) (λ _. by-choose (λ m. m ≤ 12) _ 8 _ (λ _. omega arith) (λ _. one-number _ 9 (omega arith)))
 
-numbered : (x : Image) (ram : Area) → Every Numbered (checks x ram)
+numbered : (x : Image) (ram : Area) → Every (Numbered 12) (checks x ram)
 unfolding checks lentChecks headerChecks processChecks blockChecks contentChecks
 numbered x ram =
     (omega arith) and (omega arith) and (omega arith) and (omega arith) and (omega arith) and (λ i. one-number _ 6 (omega arith)) and section-number (x .block) _
@@ -146,26 +146,30 @@ pub not-both : (c : Check) (n place : ℕ) → 1 ≤ n → Passes c → Refuses 
 not-both (whole m c) n place h p r = let z : _≡_ {A = ℕ} 0 1 = cc in omega arith
 not-both (records m f) n place h p r = omega (arith, p place (r .0), r .1)
 
-all-pass : (cs : List Check) (v : Verdict) → Decided cs v → (v .number ≡ 0) ↔ Every Passes cs
+all-pass : (top : ℕ) (cs : List Check) (v : Verdict) → Decided top cs v → (v .number ≡ 0) ↔ Every Passes cs
 unfolding accepted refused
-all-pass cs v (inl d) = ((λ _. d .0), (λ _. rw (d .1)))
-all-pass cs v (inr d) = (
+all-pass top cs v (inl d) = ((λ _. d .0), (λ _. rw (d .1)))
+all-pass top cs v (inr d) = (
   (λ e. absurd (omega (arith, d .0))),
   (λ ps. absurd (not-both (d .2 .check) (v .number) (v .place) (d .0) (every-at Passes cs (d .2 .step) ps (d .2 .there)) (d .2 .cause))),
 )
 
-first-cause : (cs : List Check) (v : Verdict) → Decided cs v → v .number ≢ 0
+first-cause : (cs : List Check) (v : Verdict) → Decided 12 cs v → v .number ≢ 0
     → (1 ≤ v .number) × (v .number ≤ 12) × FirstCause cs (v .number) (v .place)
 unfolding accepted refused
 first-cause cs v (inl d) h = absurd (h (rw (d .1)))
 first-cause cs v (inr d) h = d
 
+-- number 0 exactly where every check of a list passes
+pub all-checks-pass : (top : ℕ) (cs : List Check) → Every (Numbered top) cs → (firstRefusal cs .number ≡ 0) ↔ Every Passes cs
+all-checks-pass top cs ns = all-pass top cs _ (decided top cs ns)
+
 -- THE VERDICT: number 0 exactly where every check passes; else the first cause
 pub verdict-passes : (x : Image) (ram : Area) → (verdict x ram .number ≡ 0) ↔ Every Passes (checks x ram)
 unfolding verdict
-verdict-passes x ram = all-pass _ _ (decided (checks x ram) (numbered x ram))
+verdict-passes x ram = all-checks-pass 12 (checks x ram) (numbered x ram)
 
 pub verdict-refuses : (x : Image) (ram : Area) → verdict x ram .number ≢ 0
     → (1 ≤ verdict x ram .number) × (verdict x ram .number ≤ 12) × FirstCause (checks x ram) (verdict x ram .number) (verdict x ram .place)
 unfolding verdict
-verdict-refuses x ram = first-cause _ _ (decided (checks x ram) (numbered x ram))
+verdict-refuses x ram = first-cause _ _ (decided 12 (checks x ram) (numbered x ram))

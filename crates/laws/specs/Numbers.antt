@@ -32,6 +32,19 @@ four-bytes n h =
     digits : (x y z c a b n : ℕ) → x + 256 * a ≡ n → y + 256 * b ≡ a → z + 256 * c ≡ b → x + 256 * y + 65536 * z + 16777216 * c ≡ n
     digits x y z c a b n p q s = omega arith
 
+-- four bytes put together, each taken out again
+pub byte-0 : (a b c d : ℕ) → a < 256 → (a + 256 * b + 65536 * c + 16777216 * d) % 256 ≡ a
+byte-0 a b c d h = omega arith
+
+pub byte-1 : (a b c d : ℕ) → a < 256 → b < 256 → (a + 256 * b + 65536 * c + 16777216 * d) / 256 % 256 ≡ b
+byte-1 a b c d h₀ h₁ = omega arith
+
+pub byte-2 : (a b c d : ℕ) → a < 256 → b < 256 → c < 256 → (a + 256 * b + 65536 * c + 16777216 * d) / 65536 % 256 ≡ c
+byte-2 a b c d h₀ h₁ h₂ = omega arith
+
+pub byte-3 : (a b c d : ℕ) → a < 256 → b < 256 → c < 256 → d < 256 → (a + 256 * b + 65536 * c + 16777216 * d) / 16777216 % 256 ≡ d
+byte-3 a b c d h₀ h₁ h₂ h₃ = omega arith
+
 -- two pairs of numbers with the same distance are ordered alike
 pub leb-shift : (x y x′ y′ : ℕ) → x + y′ ≡ x′ + y → leb x y ≡ leb x′ y′
 leb-shift x y x′ y′ e = elim (decLt y x) [

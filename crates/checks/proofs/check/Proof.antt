@@ -1,7 +1,8 @@
 use native.Mathlib.Omega.{arith}
 use borrow.Author.Needs.{needs}
 use Rattle.notation.specs.Choice.{choose}
-use Rattle.checks.proofs.Verdicts.{verdict-then, passes, refuses, few-pages, few-processes}
+use Rattle.accepted.specs.InOrder.{passes, refuses}
+use Rattle.checks.proofs.Verdicts.{verdict-then, few-pages, few-processes}
 use Rattle.checks.proofs.check.Statement.{statement}
 use Rattle.checks.proofs.check.Tie as tie
 

@@ -5,7 +5,8 @@ use Rattle.notation.specs.Choice.{choose}
 use Rattle.rules.specs.Lent.{imageOf}
 use Rattle.rules.specs.Refusals.{ramTooSmall, refused, accepted, firstRefusal}
 use Rattle.checks.specs.Scan.{recordChecks}
-use Rattle.checks.proofs.Verdicts.{records-then, passes, refuses}
+use Rattle.accepted.specs.InOrder.{passes, refuses}
+use Rattle.checks.proofs.Verdicts.{records-then}
 use Rattle.checks.proofs.record_refusal.Statement.{statement}
 use Rattle.checks.proofs.record_refusal.Tie as tie
 

@@ -7,7 +7,7 @@ use borrow.Author.Needs.{needs}
 use Rattle.rules.specs.Lent.{imageOf}
 use Rattle.rules.specs.Refusals.{accepted, firstRecord, firstRefusal}
 use Rattle.checks.specs.Scan.{refusalAt, scanOf}
-use Rattle.checks.proofs.Verdicts.{scan-end, scan-next, scan-stop}
+use Rattle.accepted.specs.InOrder.{scan-end, scan-next, scan-stop}
 use Rattle.checks.proofs.scan_refusal.Statement.{statement}
 use Rattle.checks.proofs.scan_refusal.Tie as tie
 
