@@ -127,7 +127,7 @@ decided top (records n f ∷ cs) ns = go (firstRecord f 0 n (firstRefusal cs)) (
       },
     ))
 
-one-number : (c : Bool) (n : ℕ) → n ≤ 12 → choose c n 0 ≤ 12
+pub one-number : (c : Bool) (n : ℕ) → n ≤ 12 → choose c n 0 ≤ 12
 one-number c n h = by-choose (λ m. m ≤ 12) c n 0 (λ _. h) (λ _. omega arith)
 
 section-number : (b : List ℕ) (flash n : ℕ) → sectionRefusal b flash n ≤ 12
@@ -146,13 +146,14 @@ pub not-both : (c : Check) (n place : ℕ) → 1 ≤ n → Passes c → Refuses 
 not-both (whole m c) n place h p r = let z : _≡_ {A = ℕ} 0 1 = cc in omega arith
 not-both (records m f) n place h p r = omega (arith, p place (r .0), r .1)
 
+-- nor do all pass where one refuses
+never : (top : ℕ) (cs : List Check) (v : Verdict) → (1 ≤ v .number) × (v .number ≤ top) × FirstCause cs (v .number) (v .place) → Every Passes cs → ⊥
+never top cs v d ps = not-both (d .2 .check) (v .number) (v .place) (d .0) (every-at Passes cs (d .2 .step) ps (d .2 .there)) (d .2 .cause)
+
 all-pass : (top : ℕ) (cs : List Check) (v : Verdict) → Decided top cs v → (v .number ≡ 0) ↔ Every Passes cs
 unfolding accepted refused
 all-pass top cs v (inl d) = ((λ _. d .0), (λ _. rw (d .1)))
-all-pass top cs v (inr d) = (
-  (λ e. absurd (omega (arith, d .0))),
-  (λ ps. absurd (not-both (d .2 .check) (v .number) (v .place) (d .0) (every-at Passes cs (d .2 .step) ps (d .2 .there)) (d .2 .cause))),
-)
+all-pass top cs v (inr d) = ((λ e. absurd (omega (arith, d .0))), (λ ps. absurd (never top cs v d ps)))
 
 first-cause : (cs : List Check) (v : Verdict) → Decided 12 cs v → v .number ≢ 0
     → (1 ≤ v .number) × (v .number ≤ 12) × FirstCause cs (v .number) (v .place)
@@ -163,6 +164,14 @@ first-cause cs v (inr d) h = d
 -- number 0 exactly where every check of a list passes
 pub all-checks-pass : (top : ℕ) (cs : List Check) → Every (Numbered top) cs → (firstRefusal cs .number ≡ 0) ↔ Every Passes cs
 all-checks-pass top cs ns = all-pass top cs _ (decided top cs ns)
+
+all-accepted : (top : ℕ) (cs : List Check) (v : Verdict) → Decided top cs v → Every Passes cs → v ≡ accepted
+all-accepted top cs v (inl d) ps = d .1
+all-accepted top cs v (inr d) ps = absurd (never top cs v d ps)
+
+-- and then the place is 0 too
+pub all-checks-accepted : (top : ℕ) (cs : List Check) → Every (Numbered top) cs → Every Passes cs → firstRefusal cs ≡ accepted
+all-checks-accepted top cs ns = all-accepted top cs _ (decided top cs ns)
 
 -- THE VERDICT: number 0 exactly where every check passes; else the first cause
 pub verdict-passes : (x : Image) (ram : Area) → (verdict x ram .number ≡ 0) ↔ Every Passes (checks x ram)

@@ -150,6 +150,11 @@ module _ {A : Type 0} where
   every-at P (y ∷ l) zero {x} e h = let q : y ≡ x = cc in rw q at (e .0)
   every-at P (y ∷ l) (suc i) e h = every-at P l i (e .1) h
 
+  pub every-get : (P : A → Type 0) (l : List A) (i : ℕ) (d : A) → P d → Every P l → P (getD l i d)
+  every-get P [] i d z e = z
+  every-get P (x ∷ l) zero d z e = e .0
+  every-get P (x ∷ l) (suc i) d z e = every-get P l i d z (e .1)
+
   pub every-map : (P Q : A → Type 0) (l : List A) → ((x : A) → P x → Q x) → Every P l → Every Q l
   every-map P Q [] f e = tt
   every-map P Q (x ∷ l) f e = (f x (e .0), every-map P Q l f (e .1))

@@ -1,0 +1,3 @@
+pub mod BlockWords
+pub mod WrittenBlock
+pub mod RoundTrips
