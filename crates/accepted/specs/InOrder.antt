@@ -27,6 +27,12 @@ module _ (f : ℕ → ℕ) (rest : Verdict) (k n : ℕ) where
   unfolding firstRecord
   scan-stop x h e z = let m : n - k ≡ suc (n - (k + 1)) = omega arith in rw (m, e) (sym (choose-no _ _ (ne-eqb (f k) 0 (λ y. z (e ∙ y)))))
 
+-- two scans that give the same numbers
+pub scan-same : (f g : ℕ → ℕ) (k n : ℕ) (rest : Verdict) → ((i : ℕ) → k ≤ i → i < k + n → f i ≡ g i) → firstRecord f k n rest ≡ firstRecord g k n rest
+unfolding firstRecord
+scan-same f g k zero rest h = refl
+scan-same f g k (suc n) rest h = rw (h k (omega arith) (omega arith), scan-same f g (suc k) n rest (λ i l m. h i (omega arith) (omega arith)))
+
 -- SOME CHECKS, THEN OTHERS
 -- the first of two verdicts, or where it has number 0 the second
 abbrev pub firstOf : Verdict → Verdict → Verdict

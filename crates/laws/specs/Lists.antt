@@ -155,6 +155,10 @@ module _ {A : Type 0} where
   every-get P (x ∷ l) zero d z e = e .0
   every-get P (x ∷ l) (suc i) d z e = every-get P l i d z (e .1)
 
+  pub every-of-get : (P : A → Type 0) (l : List A) (d : A) → ((i : ℕ) → P (getD l i d)) → Every P l
+  every-of-get P [] d h = tt
+  every-of-get P (x ∷ l) d h = (h zero, every-of-get P l d (λ i. h (suc i)))
+
   pub every-map : (P Q : A → Type 0) (l : List A) → ((x : A) → P x → Q x) → Every P l → Every Q l
   every-map P Q [] f e = tt
   every-map P Q (x ∷ l) f e = (f x (e .0), every-map P Q l f (e .1))

@@ -86,9 +86,9 @@ bytes-of-read b n e h =
     let long : length ws ≡ n = tab-length n (λ i. word b (4 * i)) in
     let size : length (bytesOf ws) ≡ length b = bytes-of-length ws ∙ omega arith in
     ext-getD 0 (bytesOf ws) b size (λ k l.
-      let at : 4 * (k / 4) + k % 4 ≡ k = omega arith in
-      let inside : k / 4 < n = omega arith in
-      let word-is : getD ws (k / 4) 0 ≡ word b (4 * (k / 4)) = tab-get n (λ i. word b (4 * i)) (k / 4) 0 inside in
-      let byte-is : getD (bytesOf ws) (4 * (k / 4) + k % 4) 0 ≡ byteOf (getD ws (k / 4) 0) (k % 4) =
-          bytes-of-get ws (k / 4) (k % 4) (omega arith) (omega arith) in
-      rw at at ((rw word-is at byte-is) ∙ byte-of-word b (4 * (k / 4)) (k % 4) h (omega arith)))
+    let at : 4 * (k / 4) + k % 4 ≡ k = omega arith in
+    let inside : k / 4 < n = omega arith in
+    let word-is : getD ws (k / 4) 0 ≡ word b (4 * (k / 4)) = tab-get n (λ i. word b (4 * i)) (k / 4) 0 inside in
+    let byte-is : getD (bytesOf ws) (4 * (k / 4) + k % 4) 0 ≡ byteOf (getD ws (k / 4) 0) (k % 4) =
+    bytes-of-get ws (k / 4) (k % 4) (omega arith) (omega arith) in
+    rw at at ((rw word-is at byte-is) ∙ byte-of-word b (4 * (k / 4)) (k % 4) h (omega arith)))

@@ -49,6 +49,14 @@ unfolding writerVerdict writerChecks
 accepts l room e = let ps = all-checks-pass 22 (writerChecks l room) (writer-numbered l room) .0 e in
     record { lists-fit = ps .0; buffer-long = ps .1 .0; processes-fit = ps .1 .1 }
 
+-- with number 0 the place is 0 too
+pub accepted-whole : (l : Records) (room : ℕ) → writerVerdict l room .number ≡ 0 → writerVerdict l room ≡ accepted
+unfolding writerVerdict
+accepted-whole l room e =
+    let cs = writerChecks l room in
+    let ns = writer-numbered l room in
+    all-checks-accepted 22 cs ns (all-checks-pass 22 cs ns .0 e)
+
 -- READING WHAT WAS WRITTEN
 -- the block that a call leaves in a buffer
 abbrev pub writtenBlock : Records → List ℕ → List ℕ
@@ -249,5 +257,5 @@ unfolding written bufferAfter accepted refused choose
 block-is-written-back b buffer bytes well h =
     let v = accepted-again b bytes well (length buffer) h in
     let n : lengthFor (processesIn (recordsOf b)) (sectionsIn (recordsOf b)) (regionsIn (recordsOf b)) ≡ length b =
-        rw (process-count b bytes well, section-count b bytes well, region-count b bytes well) (sym (true-length b bytes well)) in
+    rw (process-count b bytes well, section-count b bytes well, region-count b bytes well) (sym (true-length b bytes well)) in
     (rw (v, n), rw (v, same-block b bytes well))

@@ -4,8 +4,8 @@ use mathlib.Core.Bool.{Bool, true, false, not}
 use mathlib.Core.List.{List, [], _∷_, _++_}
 use Prim.Native.Nat.{ℕ, zero, suc, _+_, _-_, _*_, _/_, _%_, _≤_, _<_}
 use native.Mathlib.Omega.{arith}
-use lib.ListN.{length, getD, drop, length-append}
-use lib.Seq.{take-at, take-all, drop-at, drop-drop}
+use lib.ListN.{length, getD, drop, length-append, List·getD-append}
+use lib.Seq.{take-at, take-all, drop-at, drop-drop, getD-drop}
 use lib.Dec.{eqb, ltb}
 use borrow.Author.Tests.{eqb-true, ltb-false, not-false}
 use Rattle.notation.specs.Words.{word, bytesOf}
@@ -145,6 +145,13 @@ module _ (l : Records) (ok : Bounded l) where
     pub region-offset-read : regionOffset (blockOf l) ≡ regionsFrom p s
     unfolding regionOffset blockWords headerWords
     region-offset-read = reads 7 (omega (arith, words-length))
+
+    -- word k of the process records
+    pub process-word-read : (k at : ℕ) → k < 4 * p → at ≡ 32 + 4 * k → word (blockOf l) at ≡ getD (l .processes) k 0
+    process-word-read k at h e =
+        let z : at ≡ 4 * (8 + k) = omega arith in
+        rw z (reads (8 + k) (omega (arith, words-length)) ∙ sym (getD-drop 8 (blockWords l) k 0)
+        ∙ rw after-header (List·getD-append (l .processes) (l .sections ++ l .regions) 0 k (omega (arith, ok .whole-processes))))
 
     -- THE RECORDS ARE READ
     pub records-read : recordsOf (blockOf l) ≡ l
