@@ -5,6 +5,7 @@ use lib.Dec.{eqb}
 use Rattle.notation.specs.Choice.{choose}
 use Rattle.types.specs.declared.Area.{Area}
 use Rattle.types.specs.declared.Answer.{Answer}
+use Rattle.types.specs.declared.Written.{Written}
 use Rattle.types.specs.declared.Rights.{Rights}
 use Rattle.types.specs.declared.Entry.{Entry}
 use Rattle.types.specs.declared.Entry.the-variants.{Absent, Reserved, Pointer, Page}
@@ -51,3 +52,7 @@ entryWords Absent = []
 entryWords Reserved = []
 entryWords (Pointer P) = []
 entryWords (Page t P) = rightsWord t ∷ P .0 ∷ []
+
+-- the block writer's answer: number, place, length
+abbrev pub writtenWords : Written → List ℕ
+writtenWords w = w .number ∷ w .place ∷ w .length ∷ []

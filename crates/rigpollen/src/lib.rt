@@ -1,16 +1,18 @@
 // The entries for C. A slice passes as a pointer and then a length.
 ghost use mathlib.Core.Path.{_≡_};
-ghost use lib.ListN.{set};
+ghost use lib.ListN.{length, set};
 ghost use lib.Seq.{sets};
 ghost use Rattle.rules.specs.Lent.{imageOf, ramOf, areaOf};
 ghost use Rattle.rules.specs.Load.{answerOn, answer as answerOf, ramAfter};
 ghost use Rattle.rules.specs.Reader.{walk};
-ghost use Rattle.rigpollen.specs.Words.{answerWords, startWords, processNumber, processWords, rightsWord, entryNumber, entryWords};
+ghost use Rattle.rules.specs.Writer.{recordsIn, written, bufferAfter};
+ghost use Rattle.rigpollen.specs.Words.{answerWords, startWords, processNumber, processWords, rightsWord, entryNumber, entryWords, writtenWords};
 use order_roots::Root;
 use types::Answer;
 use types::Entry;
 use types::PhysPage;
 use types::Rights;
+use types::Written;
 
 // The number for a process that there is not.
 const NO_PROCESS: u32 = 31;
@@ -163,4 +165,32 @@ pub extern "C" fn rigpollen_walk(
 {
     let entry = sv32_reader::walk(ram, ram_start, PhysPage(root), address);
     tell_entry(entry, page)
+}
+
+// The words of the writer's answer.
+fn tell_written(full: Written, words: &mut [u32])
+    ensures { λ _. ⌜ now (words .exit) ≡ sets (now (words .entry)) 0 (writtenWords full) ⌝ }
+{
+    put(words, 0, full.number);
+    put(words, 1, full.place);
+    put(words, 2, full.length);
+}
+
+// Writes the boot block of these records to the start of `buffer`; bytes beyond it stay. Number, place and length are put into `answer`, as
+// many as fit; what lies beyond stays. Returns 0; else the number of the refusal, which leaves `buffer` as it came.
+#[no_mangle]
+pub extern "C" fn rigpollen_write_block(
+    processes: &[u32],
+    sections: &[u32],
+    regions: &[u32],
+    buffer: &mut [u8],
+    answer: &mut [u32],
+) -> u32
+    ensures { λ r. ⌜ (r ≡ written (recordsIn (now (processes .entry)) (now (sections .entry)) (now (regions .entry))) (length (now (buffer .entry))) .number)
+        × (now (buffer .exit) ≡ bufferAfter (recordsIn (now (processes .entry)) (now (sections .entry)) (now (regions .entry))) (now (buffer .entry)))
+        × (now (answer .exit) ≡ sets (now (answer .entry)) 0 (writtenWords (written (recordsIn (now (processes .entry)) (now (sections .entry)) (now (regions .entry))) (length (now (buffer .entry)))))) ⌝ }
+{
+    let full = block_writer::write_block(processes, sections, regions, buffer);
+    tell_written(full, answer);
+    full.number
 }
