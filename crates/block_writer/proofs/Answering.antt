@@ -1,20 +1,18 @@
 -- The writer's answer and its buffer, by the first refusal.
-use mathlib.Core.Path.{_≡_, refl, sym, ap, _∙_}
+use mathlib.Core.Path.{_≡_, sym, ap, _∙_}
 use mathlib.Core.Bool.{true, false}
-use mathlib.Core.List.{List, [], _∷_}
-use Prim.Native.Nat.{ℕ, _+_, _-_, _*_, _/_, _≤_, _<_}
+use mathlib.Core.List.{List}
+use Prim.Native.Nat.{ℕ, _+_, _-_, _*_, _≤_, _<_}
 use native.Mathlib.Omega.{arith}
 use lib.ListN.{length, getD}
-use lib.Dec.{eqb}
 use borrow.Author.Tests.{ne-eqb, lt-ltb, le-ltb}
 use Rattle.notation.specs.Choice.{choose}
 use Rattle.laws.specs.Choice.{choose-yes}
 use Rattle.laws.specs.Counts.{sum-same}
 use Rattle.laws.specs.Lists.{every-of-get}
 use Rattle.types.specs.declared.Verdict.{Verdict}
-use Rattle.types.specs.declared.Written.{Written}
 use Rattle.rules.specs.Block.{lengthFor, entryPoint, firstSection, sectionsOf, kind, processAt, processRecord}
-use Rattle.rules.specs.Refusals.{sectionsBefore, processUnfit, Check, refused, accepted, firstRefusal, processChecks}
+use Rattle.rules.specs.Refusals.{sectionsBefore, processUnfit, refused, accepted, firstRefusal, processChecks}
 use Rattle.rules.specs.Writer.{Records, processesIn, sectionsIn, regionsIn, blockOf, listsUnfit, bufferTooShort, writerChecks, writerVerdict, written, bufferAfter}
 use Rattle.accepted.specs.InOrder.{scan-same}
 use Rattle.round_trips.specs.RoundTrips.{accepted-whole}

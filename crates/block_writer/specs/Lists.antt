@@ -1,5 +1,4 @@
 -- What the writer's parts do: process records in a list of words, refusal 6 of them, and the block at the start of a buffer.
-use mathlib.Core.Bool.{Bool}
 use mathlib.Core.List.{List, [], _∷_, _++_}
 use Prim.Native.Nat.{ℕ, _+_, _*_, _/_}
 use lib.ListN.{length, getD, drop}

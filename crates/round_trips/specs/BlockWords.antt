@@ -1,7 +1,7 @@
 -- The words of a block: the records that are read from it are parts of the list of its words.
-use mathlib.Core.Path.{_≡_, refl, sym, ap, _∙_}
+use mathlib.Core.Path.{_≡_, sym, _∙_}
 use mathlib.Core.List.{List, [], _∷_, _++_}
-use Prim.Native.Nat.{ℕ, zero, suc, _+_, _-_, _*_, _/_, _%_, _≤_, _<_, min}
+use Prim.Native.Nat.{ℕ, zero, suc, _+_, _-_, _*_, _≤_, _<_}
 use native.Mathlib.Nat.{mul-zero, mul-suc}
 use native.Mathlib.Omega.{arith}
 use lib.ListN.{length, getD, take, drop, length-take, length-drop, take-append-drop}
@@ -11,7 +11,7 @@ use Rattle.notation.specs.Words.{word}
 use Rattle.laws.specs.Lists.{tab-by}
 use Rattle.rules.specs.Block.{processCount, sectionCount, regionCount, sectionsAt, regionsAt, processAt, sectionAt, regionAt}
 use Rattle.rules.specs.Block.{entryPoint, firstSection, sectionsOf, kind, address, size, flashOffset, flags, regionStart, regionPages}
-use Rattle.rules.specs.Writer.{Records, recordsIn, recordsOf}
+use Rattle.rules.specs.Writer.{recordsIn, recordsOf}
 
 -- w elements from index x on
 pub part-is : (w x : ℕ) (l : List ℕ) → x + w ≤ length l → take w (drop x l) ≡ tab w (λ k. getD l (x + k) 0)

@@ -1,25 +1,23 @@
 -- 02, A2: "Reading what it wrote gives the same records, and a block that passes refusals 2 to 6 is written back to the same bytes."
-use mathlib.Core.Path.{_≡_, refl, sym, ap, _∙_}
-use mathlib.Core.Bool.{Bool, true, false, not}
-use mathlib.Core.List.{List, [], _∷_, _++_}
-use Prim.Native.Nat.{ℕ, _+_, _-_, _*_, _/_, _%_, _≤_, _<_}
+use mathlib.Core.Path.{_≡_, refl, sym, _∙_}
+use mathlib.Core.Bool.{true, false, not}
+use mathlib.Core.List.{List, _++_}
+use Prim.Native.Nat.{ℕ, _+_, _-_, _*_, _%_, _≤_, _<_}
 use native.Mathlib.Omega.{arith}
 use lib.ListN.{length, getD, take, drop, length-take, length-drop}
-use lib.Seq.{take-add, take-all, take-at, drop-drop}
-use lib.Dec.{eqb, ltb}
-use borrow.Author.Tests.{eqb-true, eq-eqb, ltb-false, le-ltb, not-false}
+use lib.Seq.{take-at}
+use lib.Dec.{eqb}
+use borrow.Author.Tests.{eqb-true, eq-eqb, le-ltb, not-false}
 use Rattle.notation.specs.Choice.{choose, any}
 use Rattle.notation.specs.Lists.{tab}
-use Rattle.notation.specs.Words.{word, bytesOf}
-use Rattle.laws.specs.Choice.{choose-yes, any-none}
+use Rattle.notation.specs.Words.{word}
+use Rattle.laws.specs.Choice.{any-none}
 use Rattle.laws.specs.Lists.{Every, _and_, every-get, tab-length, tab-get}
 use Rattle.laws.specs.Words.{bytes-of-read}
-use Rattle.types.specs.declared.Verdict.{Verdict}
-use Rattle.types.specs.declared.Written.{Written}
 use Rattle.rules.specs.Block.{format, lengthField, processCount, processOffset, sectionCount, sectionOffset, regionCount, regionOffset, sectionsAt, regionsAt, tightLength}
 use Rattle.rules.specs.Block.{sectionsFrom, regionsFrom, lengthFor}
-use Rattle.rules.specs.Refusals.{blockTooShort, formatUnknown, outside, countsOutside, countsOutOfBounds, layoutNotTight, processUnfit}
-use Rattle.rules.specs.Refusals.{Check, accepted, refused, firstRefusal, headerChecks, processChecks, blockChecks, wellFormed}
+use Rattle.rules.specs.Refusals.{blockTooShort, formatUnknown, countsOutside, countsOutOfBounds, layoutNotTight, processUnfit}
+use Rattle.rules.specs.Refusals.{accepted, refused, headerChecks, processChecks, blockChecks, wellFormed}
 use Rattle.rules.specs.Writer.{Records, recordsIn, recordsOf, processesIn, sectionsIn, regionsIn, headerWords, blockOf, listsUnfit, bufferTooShort, writerChecks, writerVerdict, written, bufferAfter}
 use Rattle.accepted.specs.Checks.{Passes, Numbered, one-number, all-checks-pass, all-checks-accepted}
 use Rattle.round_trips.specs.BlockWords.{part-is, four-parts, records-are}

@@ -1,12 +1,11 @@
 -- The block of lists that 21 does not refuse: its words, its length, its counts, and the records that are read from it.
-use mathlib.Core.Path.{_≡_, refl, sym, ap, _∙_}
-use mathlib.Core.Bool.{Bool, true, false, not}
-use mathlib.Core.List.{List, [], _∷_, _++_}
-use Prim.Native.Nat.{ℕ, zero, suc, _+_, _-_, _*_, _/_, _%_, _≤_, _<_}
+use mathlib.Core.Path.{_≡_, refl, sym, _∙_}
+use mathlib.Core.Bool.{false, not}
+use mathlib.Core.List.{List, _++_}
+use Prim.Native.Nat.{ℕ, _+_, _-_, _*_, _%_, _≤_, _<_}
 use native.Mathlib.Omega.{arith}
 use lib.ListN.{length, getD, drop, length-append, List·getD-append}
 use lib.Seq.{take-at, take-all, drop-at, drop-drop, getD-drop}
-use lib.Dec.{eqb, ltb}
 use borrow.Author.Tests.{eqb-true, ltb-false, not-false}
 use Rattle.notation.specs.Words.{word, bytesOf}
 use Rattle.laws.specs.Choice.{any-none}
@@ -14,7 +13,7 @@ use Rattle.laws.specs.Lists.{Every, _and_, every-get, every-append}
 use Rattle.laws.specs.Words.{bytes-of-length, word-of-words}
 use Rattle.rules.specs.Block.{format, lengthField, processCount, processOffset, sectionCount, sectionOffset, regionCount, regionOffset, sectionsFrom, regionsFrom, lengthFor}
 use Rattle.rules.specs.Refusals.{outside, countsOutside}
-use Rattle.rules.specs.Writer.{Records, recordsIn, recordsOf, processesIn, sectionsIn, regionsIn, headerWords, blockOf, listsUnfit}
+use Rattle.rules.specs.Writer.{Records, recordsOf, processesIn, sectionsIn, regionsIn, headerWords, blockOf, listsUnfit}
 use Rattle.round_trips.specs.BlockWords.{records-are}
 
 -- every element is a word of 32 bits

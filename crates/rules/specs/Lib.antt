@@ -13,3 +13,4 @@ pub mod Compare
 pub mod Writer
 pub mod Examples
 pub mod SmallBoard
+pub mod WriterExamples
