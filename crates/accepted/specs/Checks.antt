@@ -127,19 +127,19 @@ decided top (records n f ∷ cs) ns = go (firstRecord f 0 n (firstRefusal cs)) (
       },
     ))
 
-pub one-number : (c : Bool) (n : ℕ) → n ≤ 12 → choose c n 0 ≤ 12
-one-number c n h = by-choose (λ m. m ≤ 12) c n 0 (λ _. h) (λ _. omega arith)
+pub one-number : (c : Bool) (n top : ℕ) → n ≤ top → choose c n 0 ≤ top
+one-number c n top h = by-choose (λ m. m ≤ top) c n 0 (λ _. h) (λ _. omega arith)
 
 section-number : (b : List ℕ) (flash n : ℕ) → sectionRefusal b flash n ≤ 12
 unfolding sectionRefusal
 section-number b flash n =
-    by-choose (λ m. m ≤ 12) _ 7 _ (λ _. omega arith) (λ _. by-choose (λ m. m ≤ 12) _ 8 _ (λ _. omega arith) (λ _. one-number _ 9 (omega arith)))
+    by-choose (λ m. m ≤ 12) _ 7 _ (λ _. omega arith) (λ _. by-choose (λ m. m ≤ 12) _ 8 _ (λ _. omega arith) (λ _. one-number _ 9 12 (omega arith)))
 
 numbered : (x : Image) (ram : Area) → Every (Numbered 12) (checks x ram)
 unfolding checks lentChecks headerChecks processChecks blockChecks contentChecks
 numbered x ram =
-    (omega arith) and (omega arith) and (omega arith) and (omega arith) and (omega arith) and (λ i. one-number _ 6 (omega arith)) and section-number (x .block) _
-    and (λ i. one-number _ 10 (omega arith)) and (λ i. one-number _ 11 (omega arith)) and (omega arith) and tt
+    (omega arith) and (omega arith) and (omega arith) and (omega arith) and (omega arith) and (λ i. one-number _ 6 12 (omega arith)) and section-number (x .block) _
+    and (λ i. one-number _ 10 12 (omega arith)) and (λ i. one-number _ 11 12 (omega arith)) and (omega arith) and tt
 
 -- a check does not pass and refuse at once
 pub not-both : (c : Check) (n place : ℕ) → 1 ≤ n → Passes c → Refuses c n place → ⊥

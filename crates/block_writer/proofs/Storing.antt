@@ -11,7 +11,7 @@ use Rattle.notation.specs.Words.{byteOf, bytesOf}
 use Rattle.laws.specs.Choice.{choose-yes}
 use Rattle.laws.specs.Lists.{tab-by}
 use Rattle.laws.specs.Words.{bytes-of-length, bytes-of-append, bytes-of-get}
-use Rattle.rules.specs.Writer.{Records, processesIn, sectionsIn, regionsIn, headerWords, blockOf}
+use Rattle.rules.specs.Writer.{Records, processesIn, sectionsIn, regionsIn, headerWords, blockWords, blockOf}
 use Rattle.word_stores.specs.Words.{withWords}
 use Rattle.block_writer.specs.Lists.{blockAtStart}
 
@@ -55,7 +55,7 @@ begun-more {done} {d₀} {d} {n = n} ws n′ b z e =
 pub all-stored : (l : Records) {done d₀ d : List ℕ} {n : ℕ} → Begun done d₀ d n
     → done ≡ ((([] ++ bytesOf (headerWords (processesIn l) (sectionsIn l) (regionsIn l))) ++ bytesOf (l .processes)) ++ bytesOf (l .sections)) ++ bytesOf (l .regions)
     → d ≡ blockAtStart l d₀
-unfolding blockAtStart blockOf
+unfolding blockAtStart blockOf blockWords
 all-stored l {done} {d₀} b e =
     let h : List ℕ = headerWords (processesIn l) (sectionsIn l) (regionsIn l) in
     let same : done ≡ blockOf l =

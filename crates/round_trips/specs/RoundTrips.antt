@@ -18,7 +18,7 @@ use Rattle.rules.specs.Block.{format, lengthField, processCount, processOffset,
 use Rattle.rules.specs.Block.{sectionsFrom, regionsFrom, lengthFor}
 use Rattle.rules.specs.Refusals.{blockTooShort, formatUnknown, countsOutside, countsOutOfBounds, layoutNotTight, processUnfit}
 use Rattle.rules.specs.Refusals.{accepted, refused, headerChecks, processChecks, blockChecks, wellFormed}
-use Rattle.rules.specs.Writer.{Records, recordsIn, recordsOf, processesIn, sectionsIn, regionsIn, headerWords, blockOf, listsUnfit, bufferTooShort, writerChecks, writerVerdict, written, bufferAfter}
+use Rattle.rules.specs.Writer.{Records, recordsIn, recordsOf, processesIn, sectionsIn, regionsIn, headerWords, blockWords, blockOf, listsUnfit, bufferTooShort, writerChecks, writerVerdict, written, bufferAfter}
 use Rattle.accepted.specs.Checks.{Passes, Numbered, one-number, all-checks-pass, all-checks-accepted}
 use Rattle.round_trips.specs.BlockWords.{part-is, four-parts, records-are}
 use Rattle.round_trips.specs.WrittenBlock.{WordLists, Bounded, bounded, block-length, format-read, length-read, processes-read, process-offset-read, sections-read, section-offset-read, regions-read, region-offset-read, records-read}
@@ -30,11 +30,11 @@ Bytes b = Every (λ x. x < 256) b
 -- THE LISTS OF CHECKS, taken apart
 block-numbered : (b : List ℕ) → Every (Numbered 12) (blockChecks b)
 unfolding blockChecks headerChecks processChecks
-block-numbered b = (omega arith) and (omega arith) and (omega arith) and (omega arith) and (λ i. one-number _ 6 (omega arith)) and tt
+block-numbered b = (omega arith) and (omega arith) and (omega arith) and (omega arith) and (λ i. one-number _ 6 12 (omega arith)) and tt
 
 writer-numbered : (l : Records) (room : ℕ) → Every (Numbered 22) (writerChecks l room)
 unfolding writerChecks processChecks
-writer-numbered l room = (omega arith) and (omega arith) and (λ i. omega (arith, one-number (processUnfit (blockOf l) i) 6 (omega arith))) and tt
+writer-numbered l room = (omega arith) and (omega arith) and (λ i. one-number _ 6 22 (omega arith)) and tt
 
 -- what the writer's number 0 says: not 21, not 22, not 6
 pub record Accepted (l : Records) (room : ℕ) : Type 0 where
@@ -227,7 +227,7 @@ module _ (b : List ℕ) (bytes : Bytes b) (well : wellFormed b ≡ true) where
   region-count = rw records-read-are (omega (arith, part-length (2 * r) (8 + 4 * p + 4 * s) (omega arith)))
 
   same-block : blockOf (recordsOf b) ≡ b
-  unfolding blockOf
+  unfolding blockOf blockWords
   same-block = rw (process-count, section-count, region-count, records-read-are, same-words)
       (bytes-of-read b n (omega (arith, true-length)) (λ k. every-get (λ x. x < 256) b k 0 (omega arith) bytes))
 

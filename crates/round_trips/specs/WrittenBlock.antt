@@ -13,7 +13,7 @@ use Rattle.laws.specs.Lists.{Every, _and_, every-get, every-append}
 use Rattle.laws.specs.Words.{bytes-of-length, word-of-words}
 use Rattle.rules.specs.Block.{format, lengthField, processCount, processOffset, sectionCount, sectionOffset, regionCount, regionOffset, sectionsFrom, regionsFrom, lengthFor}
 use Rattle.rules.specs.Refusals.{outside, countsOutside}
-use Rattle.rules.specs.Writer.{Records, recordsOf, processesIn, sectionsIn, regionsIn, headerWords, blockOf, listsUnfit}
+use Rattle.rules.specs.Writer.{Records, recordsOf, processesIn, sectionsIn, regionsIn, headerWords, blockWords, blockOf, listsUnfit}
 use Rattle.round_trips.specs.BlockWords.{records-are}
 
 -- every element is a word of 32 bits
@@ -57,14 +57,6 @@ bounded l e =
       few-regions = ltb-false _ _ (any-none _ (any-none _ counts 2) 1);
     }
 
--- the words of the block
-unfoldable pub blockWords : Records → List ℕ
-blockWords l = headerWords (processesIn l) (sectionsIn l) (regionsIn l) ++ (l .processes ++ (l .sections ++ l .regions))
-
-pub block-bytes : (l : Records) → blockOf l ≡ bytesOf (blockWords l)
-unfolding blockOf blockWords
-block-bytes l = refl
-
 module _ (l : Records) (ok : Bounded l) where
   abbrev p : ℕ
   p = processesIn l
@@ -77,11 +69,11 @@ module _ (l : Records) (ok : Bounded l) where
 
   words-length : length (blockWords l) ≡ 8 + 4 * p + 4 * s + 2 * r
   unfolding blockWords headerWords
-  words-length = rw (length-append (l .processes) (l .sections ++ l .regions), length-append (l .sections) (l .regions))
-      (omega (arith, ok .whole-processes, ok .whole-sections, ok .whole-regions))
+  words-length = simp length-append (omega (arith, ok .whole-processes, ok .whole-sections, ok .whole-regions))
 
   pub block-length : length (blockOf l) ≡ lengthFor p s r
-  block-length = rw block-bytes (bytes-of-length (blockWords l) ∙ omega (arith, words-length))
+  unfolding blockOf
+  block-length = bytes-of-length (blockWords l) ∙ omega (arith, words-length)
 
   header-fits : Words (headerWords p s r)
   unfolding headerWords
@@ -110,7 +102,8 @@ module _ (l : Records) (ok : Bounded l) where
         (words-append (l .processes) _ (ws .process-words) (words-append (l .sections) (l .regions) (ws .section-words) (ws .region-words)))
 
     reads : (i : ℕ) → i < length (blockWords l) → word (blockOf l) (4 * i) ≡ getD (blockWords l) i 0
-    reads i h = rw block-bytes (word-of-words (blockWords l) i h (every-get (λ w. w < 0x1_0000_0000) (blockWords l) i 0 (omega arith) words-fit))
+    unfolding blockOf
+    reads i h = word-of-words (blockWords l) i h (every-get (λ w. w < 0x1_0000_0000) (blockWords l) i 0 (omega arith) words-fit)
 
     -- THE HEADER IS READ
     pub format-read : format (blockOf l) ≡ 1

@@ -44,8 +44,11 @@ regionsIn l = length (l .regions) / 2
 unfoldable pub headerWords : ℕ → ℕ → ℕ → List ℕ
 headerWords p s r = 1 ∷ lengthFor p s r ∷ p ∷ 32 ∷ s ∷ sectionsFrom p ∷ r ∷ regionsFrom p s ∷ []
 
+unfoldable pub blockWords : Records → List ℕ
+blockWords l = headerWords (processesIn l) (sectionsIn l) (regionsIn l) ++ (l .processes ++ (l .sections ++ l .regions))
+
 unfoldable pub blockOf : Records → List ℕ
-blockOf l = bytesOf (headerWords (processesIn l) (sectionsIn l) (regionsIn l) ++ (l .processes ++ (l .sections ++ l .regions)))
+blockOf l = bytesOf (blockWords l)
 
 -- 21: a list is not whole records, or a count is outside 01's bounds
 unfoldable pub listsUnfit : Records → Bool
@@ -80,5 +83,5 @@ bufferAfter l buffer = choose (eqb (writerVerdict l (length buffer) .number) 0) 
 
 -- all definitions of this file, to be unfolded as one
 unfoldable pub writer-rules : Unit {0}
-unfolding recordsOf headerWords blockOf listsUnfit bufferTooShort writerChecks writerVerdict written bufferAfter
+unfolding recordsOf headerWords blockWords blockOf listsUnfit bufferTooShort writerChecks writerVerdict written bufferAfter
 writer-rules = tt
