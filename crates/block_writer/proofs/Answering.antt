@@ -5,7 +5,7 @@ use mathlib.Core.List.{List}
 use Prim.Native.Nat.{ℕ, _+_, _-_, _*_, _≤_, _<_}
 use native.Mathlib.Omega.{arith}
 use lib.ListN.{length, getD}
-use borrow.Author.Tests.{ne-eqb, lt-ltb, le-ltb}
+use borrow.Author.Tests.{ne-eqb, lt-ltb, le-ltb, ltb-false}
 use Rattle.notation.specs.Choice.{choose}
 use Rattle.laws.specs.Choice.{choose-yes}
 use Rattle.laws.specs.Counts.{sum-same}
@@ -15,9 +15,9 @@ use Rattle.rules.specs.Block.{lengthFor, entryPoint, firstSection, sectionsOf, 
 use Rattle.rules.specs.Refusals.{sectionsBefore, processUnfit, refused, accepted, firstRefusal, processChecks}
 use Rattle.rules.specs.Writer.{Records, processesIn, sectionsIn, regionsIn, blockOf, listsUnfit, bufferTooShort, writerChecks, writerVerdict, written, bufferAfter}
 use Rattle.accepted.specs.InOrder.{scan-same}
-use Rattle.round_trips.specs.RoundTrips.{accepted-whole}
+use Rattle.round_trips.specs.RoundTrips.{accepts, accepted-whole}
 use Rattle.round_trips.specs.WrittenBlock.{WordLists, Bounded, bounded, processes-read, sections-read, process-word-read}
-use Rattle.block_writer.specs.Lists.{processIn, sectionsBeforeIn, refusalIn, processRefusal, blockAtStart, refusal}
+use Rattle.block_writer.specs.Lists.{processIn, sectionsBeforeIn, refusalIn, processRefusal, blockAtStart}
 
 -- REFUSAL 6 of the list is that of the block to be written
 module _ (l : Records) (ok : Bounded l) (ws : WordLists l) where
@@ -91,10 +91,23 @@ module _ (l : Records) (room : ℕ) where
 
 -- THE ANSWER to a refusal, and to none
 module _ (l : Records) (d : List ℕ) (v : Verdict) (is : v ≡ writerVerdict l (length d)) where
-  pub refuses : (v .number ≡ 0 → ⊥) → (refusal (v .number) (v .place) ≡ written l (length d)) × (d ≡ bufferAfter l d)
-  unfolding refusal written bufferAfter choose
+  pub refuses : (v .number ≡ 0 → ⊥) → (record { number = v .number; place = v .place; length = 0 } ≡ written l (length d)) × (d ≡ bufferAfter l d)
+  unfolding written bufferAfter choose
   refuses z = let n = ne-eqb (v .number) 0 z in (rw (← is, n), rw (← is, n))
 
-  pub writes : v .number ≡ 0 → (record { number = 0; place = 0; length = lengthFor (processesIn l) (sectionsIn l) (regionsIn l) } ≡ written l (length d)) × (blockAtStart l d ≡ bufferAfter l d)
+  pub few-accepted : v .number ≡ 0 → Few l
+  few-accepted z = few l (accepts l (length d) (ap (λ w. w .number) (sym is) ∙ z) .lists-fit)
+
+  pub room-accepted : v .number ≡ 0 → 32 + 4 * (length (l .processes) + length (l .sections) + length (l .regions)) ≤ length d
+  unfolding bufferTooShort
+  room-accepted z =
+      let short = accepts l (length d) (ap (λ w. w .number) (sym is) ∙ z) .buffer-long in
+      omega (arith, few-accepted z .length-is, ltb-false (length d) (lengthFor (processesIn l) (sectionsIn l) (regionsIn l)) short)
+
+  pub writes : (z : v .number ≡ 0)
+      → (record { number = 0; place = 0; length = 32 + 4 * (length (l .processes) + length (l .sections) + length (l .regions)) } ≡ written l (length d))
+      × (blockAtStart l d ≡ bufferAfter l d)
   unfolding written bufferAfter blockAtStart accepted refused choose
-  writes z = let a = accepted-whole l (length d) (ap (λ w. w .number) (sym is) ∙ z) in (rw a, rw a)
+  writes z =
+      let a = accepted-whole l (length d) (ap (λ w. w .number) (sym is) ∙ z) in
+      (rw (a, few-accepted z .length-is), rw a)

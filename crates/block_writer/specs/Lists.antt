@@ -6,7 +6,6 @@ use Rattle.notation.specs.Choice.{choose}
 use Rattle.notation.specs.Lists.{sum}
 use Rattle.types.specs.declared.Process.{Process}
 use Rattle.types.specs.declared.Verdict.{Verdict}
-use Rattle.types.specs.declared.Written.{Written}
 use Rattle.rules.specs.Refusals.{recordUnfit, records, firstRefusal}
 use Rattle.rules.specs.Writer.{Records, blockOf}
 
@@ -34,7 +33,3 @@ processRefusal ws s = firstRefusal (records (length ws / 4) (refusalIn ws s) ∷
 -- the buffer with the block of l at its start
 unfoldable pub blockAtStart : Records → List ℕ → List ℕ
 blockAtStart l buffer = blockOf l ++ drop (length (blockOf l)) buffer
-
--- the answer of a refusal
-unfoldable pub refusal : ℕ → ℕ → Written
-refusal n place = record { number = n; place = place; length = 0 }

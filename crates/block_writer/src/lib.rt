@@ -7,8 +7,8 @@ ghost use mathlib.Core.Path.{_≡_};
 ghost use Prim.Native.Nat.{_+_, _*_, _≤_};
 ghost use lib.ListN.{length, take, drop};
 ghost use Rattle.notation.specs.Words.{bytesOf};
-ghost use Rattle.rules.specs.Writer.{recordsIn, headerWords, listsUnfit, written, bufferAfter};
-ghost use Rattle.block_writer.specs.Lists.{processIn, processRefusal, blockAtStart, refusal};
+ghost use Rattle.rules.specs.Writer.{recordsIn, headerWords, listsUnfit, writerVerdict, written, bufferAfter};
+ghost use Rattle.block_writer.specs.Lists.{processIn, processRefusal, blockAtStart};
 
 // Refusal 21, for lists of so many words.
 fn lists_unfit(processes: &[u32], sections: &[u32], regions: &[u32]) -> bool
@@ -65,6 +65,25 @@ fn process_refusal(processes: &[u32], s: u32) -> Verdict
     }
 }
 
+// The verdict on the lists, for a buffer of `room` bytes: 21, 22 and 6, in order.
+fn writer_verdict(processes: &[u32], sections: &[u32], regions: &[u32], room: usize) -> Verdict
+    ensures { λ r. ⌜ r ≡ writerVerdict (recordsIn (now (processes .entry)) (now (sections .entry)) (now (regions .entry))) room ⌝ }
+{
+    if lists_unfit(processes, sections, regions) {
+        return Verdict {
+            number: 21,
+            place: 0,
+        };
+    }
+    if room < 32 + 4 * (processes.len() + sections.len() + regions.len()) {
+        return Verdict {
+            number: 22,
+            place: 0,
+        };
+    }
+    process_refusal(processes, (sections.len() / 4) as u32)
+}
+
 // The header of a block with p, s and r records.
 fn header(p: u32, s: u32, r: u32) -> [u32; 8]
     requires { ⌜ (p ≤ 16) × (s ≤ 64) × (r ≤ 32) ⌝ }
@@ -86,11 +105,12 @@ fn put_words(buffer: &mut [u8], at: usize, words: &[u32])
     word_stores::words_in(part, words);
 }
 
-// The block of lists that draw neither 21 nor 22, at the start of the buffer.
-fn store_block(processes: &[u32], sections: &[u32], regions: &[u32], buffer: &mut [u8])
+// Stores the block of lists that draw neither 21 nor 22 at the start of the buffer. Answers its length.
+fn store_block(processes: &[u32], sections: &[u32], regions: &[u32], buffer: &mut [u8]) -> u32
     requires { ⌜ (length (now processes) ≤ 64) × (length (now sections) ≤ 256) × (length (now regions) ≤ 64)
         × (32 + 4 * (length (now processes) + length (now sections) + length (now regions)) ≤ length (now buffer)) ⌝ }
-    ensures { λ _. ⌜ now (buffer .exit) ≡ blockAtStart (recordsIn (now (processes .entry)) (now (sections .entry)) (now (regions .entry))) (now (buffer .entry)) ⌝ }
+    ensures { λ r. ⌜ (r ≡ 32 + 4 * (length (now (processes .entry)) + length (now (sections .entry)) + length (now (regions .entry))))
+        × (now (buffer .exit) ≡ blockAtStart (recordsIn (now (processes .entry)) (now (sections .entry)) (now (regions .entry))) (now (buffer .entry))) ⌝ }
 {
     let sections_at = 32 + 4 * processes.len();
     let regions_at = sections_at + 4 * sections.len();
@@ -103,17 +123,7 @@ fn store_block(processes: &[u32], sections: &[u32], regions: &[u32], buffer: &mu
     put_words(buffer, 32, processes);
     put_words(buffer, sections_at, sections);
     put_words(buffer, regions_at, regions);
-}
-
-// The answer of a refusal.
-fn refused(number: u32, place: u32) -> Written
-    ensures { λ r. ⌜ r ≡ refusal number place ⌝ }
-{
-    Written {
-        number,
-        place,
-        length: 0,
-    }
+    (regions_at + 4 * regions.len()) as u32
 }
 
 // Writes the block of these records to the start of the buffer: four words for a process, four for a section, two for a region. Bytes of
@@ -127,21 +137,18 @@ pub fn write_block(
     ensures { λ r. ⌜ (r ≡ written (recordsIn (now (processes .entry)) (now (sections .entry)) (now (regions .entry))) (length (now (buffer .entry))))
         × (now (buffer .exit) ≡ bufferAfter (recordsIn (now (processes .entry)) (now (sections .entry)) (now (regions .entry))) (now (buffer .entry))) ⌝ }
 {
-    if lists_unfit(processes, sections, regions) {
-        return refused(21, 0);
+    let verdict = writer_verdict(processes, sections, regions, buffer.len());
+    if verdict.number != 0 {
+        return Written {
+            number: verdict.number,
+            place: verdict.place,
+            length: 0,
+        };
     }
-    let length = 32 + 4 * (processes.len() + sections.len() + regions.len());
-    if buffer.len() < length {
-        return refused(22, 0);
-    }
-    let process = process_refusal(processes, (sections.len() / 4) as u32);
-    if process.number != 0 {
-        return refused(process.number, process.place);
-    }
-    store_block(processes, sections, regions, buffer);
+    let length = store_block(processes, sections, regions, buffer);
     Written {
         number: 0,
         place: 0,
-        length: length as u32,
+        length,
     }
 }

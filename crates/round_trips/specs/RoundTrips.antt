@@ -42,7 +42,7 @@ pub record Accepted (l : Records) (room : ℕ) : Type 0 where
   pub buffer-long : bufferTooShort l room ≡ false
   pub processes-fit : Every Passes (processChecks (blockOf l))
 
-accepts : (l : Records) (room : ℕ) → writerVerdict l room .number ≡ 0 → Accepted l room
+pub accepts : (l : Records) (room : ℕ) → writerVerdict l room .number ≡ 0 → Accepted l room
 unfolding writerVerdict writerChecks
 accepts l room e = let ps = all-checks-pass 22 (writerChecks l room) (writer-numbered l room) .0 e in
     record { lists-fit = ps .0; buffer-long = ps .1 .0; processes-fit = ps .1 .1 }

@@ -1,3 +1,4 @@
+use native.Mathlib.Omega.{arith}
 use mathlib.Core.Path.{refl}
 use Rattle.rules.specs.Writer.{recordsIn, headerWords}
 use Rattle.block_writer.proofs.Storing.{begun-none, begun-more, all-stored}
@@ -44,6 +45,15 @@ put-words-requires-3 c κs = search needs
 put-words-requires-4 : tie.Need-put-words-requires-4
 put-words-requires-4 c κs = search needs
 
+mul-result : tie.Need-mul-result
+mul-result c = search needs
+
+add-result : tie.Need-add-result
+add-result c = search needs
+
+cast-result : tie.Need-cast-result
+cast-result c = search needs
+
 same-length : tie.Need-same-length
 same-length c = search needs
 
@@ -61,7 +71,7 @@ returns c =
     let b₂ = begun-more (l .processes) _ b₁ refl (w₂ .put-words2 .ensures) in
     let b₃ = begun-more (l .sections) _ b₂ refl (w₃ .put-words3 .ensures) in
     let b₄ = begun-more (l .regions) _ b₃ refl (c .before .before .put-words4 .ensures) in
-    all-stored l b₄ (rw is)
+    (omega arith, all-stored l b₄ (rw is))
 
 pub store-block-spec : {M : Type 1} → statement M
 store-block-spec =
@@ -80,5 +90,8 @@ store-block-spec =
     put-words-requires-2
     put-words-requires-3
     put-words-requires-4
+    mul-result
+    add-result
+    cast-result
     same-length
     returns)
