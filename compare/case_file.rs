@@ -1,7 +1,7 @@
 //! Cases as one file, for the library on another machine (rv32/cases.c). All is 32-bit words, little-endian; bytes are filled up with
 //! zeros to whole words.
 //!
-//! RAM is not in the file: its word k before the load is `dirt` of the case's number and k.
+//! RAM is not in the file, nor is the writer's buffer: their word k before a call is `dirt` of the case's number and k.
 //!
 //! The number of cases, and the damage (0; rv32/cases.c). Then of each case:
 //!
@@ -12,12 +12,16 @@
 //! - the bytes of the block and of flash
 //! - of each page of RAM (the last may be cut) what it is after the load: 0 as before, 1 zero, 2 other bytes, and then these
 //! - tables that no loader writes: where they start, their length, their bytes, and walks on them
+//! - how many calls of the block writer, and of each the words of its three lists and the bytes of its buffer, the answer's three words,
+//!   the lists, and what is written
 
 use crate::cases::{self, Case};
+use crate::lists;
 use crate::reader;
 use crate::rng::Rng;
 use crate::rules::{self, Fault, Outcome, PAGE};
 use crate::walker::{self, Found};
+use crate::writer::{self, Job};
 use std::fs::File;
 use std::io::{BufWriter, Write};
 
@@ -26,6 +30,9 @@ const LARGE_RAM: usize = 1 << 20;
 const LARGE_CASES: u64 = 2;
 const WALKS_OF_A_PROCESS: usize = 12;
 const WALKS_OF_ODD_TABLES: usize = 24;
+/// Every so many cases have calls of the writer, with lists of at most so many words.
+const CASES_PER_WRITING: u64 = 4;
+const LIST_WORDS: usize = 2000;
 
 /// Part of a file, and the places of what is expected, by name.
 #[derive(Default)]
@@ -142,6 +149,35 @@ fn write_odd_tables(out: &mut Out, rng: &mut Rng) {
     }
 }
 
+/// The records of the case's block, and generated lists. Counts the calls by number.
+fn write_writings(
+    out: &mut Out,
+    number: u64,
+    case: &Case,
+    rng: &mut Rng,
+    numbers: &mut writer::Numbers,
+) {
+    let mut jobs: Vec<Job> = Vec::new();
+    if number % CASES_PER_WRITING == 0 {
+        jobs.extend(writer::job_of(&case.block, rng));
+        jobs.push(lists::generate(rng));
+        jobs.retain(|job| job.lists.iter().all(|list| list.len() <= LIST_WORDS));
+    }
+    out.words(&[jobs.len() as u32]);
+    for job in &jobs {
+        let buffer = dirty_ram(number, job.buffer.len());
+        let want = writer::write(&job.lists, &buffer, Fault::None);
+        out.words(&job.lists.each_ref().map(|list| list.len() as u32));
+        out.words(&[buffer.len() as u32]);
+        out.mark("writer's answer");
+        out.words(&want.answer);
+        job.lists.iter().for_each(|list| out.words(list));
+        out.mark("written block");
+        out.padded(&want.buffer[..want.answer[2] as usize]);
+        numbers.count(want.answer[0]);
+    }
+}
+
 fn write_case(out: &mut Out, number: u64, case: &Case, want: &Outcome, rng: &mut Rng) {
     let lengths = [&case.ram, &case.block, &case.flash].map(|area| area.len() as u32);
     out.words(&[number as u32, case.start]);
@@ -179,11 +215,13 @@ pub fn write(path: &str, seed: u64, count: u64) -> Result<(), String> {
     let mut file = BufWriter::new(File::create(path).map_err(failed)?);
     let mut out = Out::default();
     let mut numbers = [0; 13];
+    let mut writings = writer::Numbers::default();
     out.words(&[count as u32, 0]);
     for (number, case) in drawn(seed, count) {
         let want = rules::load(&case.block, &case.flash, &case.ram, case.start, Fault::None);
         let mut rng = Rng::new(seed, number, 2);
         write_case(&mut out, number, &case, &want, &mut rng);
+        write_writings(&mut out, number, &case, &mut rng, &mut writings);
         for (name, at) in std::mem::take(&mut out.places) {
             if number == 0 {
                 println!("place {at} {name}");
@@ -197,6 +235,14 @@ pub fn write(path: &str, seed: u64, count: u64) -> Result<(), String> {
     if let Some(number) = numbers.iter().position(|&n| n == 0 && count >= 1000) {
         return Err(format!("number {number} never came up in {count} cases"));
     }
-    println!("compare: {count} cases of seed {seed} written; by number {numbers:?}");
+    if let Some(number) = writings.missing().filter(|_| count >= 1000) {
+        return Err(format!(
+            "the writer's number {number} never came up in {count} cases"
+        ));
+    }
+    println!(
+        "compare: {count} cases of seed {seed} written; by number {numbers:?}; the writer's {:?}",
+        writings.0
+    );
     Ok(())
 }

@@ -7,6 +7,7 @@ use crate::reader;
 use crate::rng::Rng;
 use crate::rules::{self, Boot, Fault, Outcome, Sight, PAGE};
 use crate::walker::{self, Found};
+use crate::writer;
 
 /// What a run has compared so far.
 #[derive(Default)]
@@ -19,6 +20,7 @@ pub struct Tally {
     pub pairs_refused: u64,
     /// Pairs in which the new RAM's tracker has a page more.
     pub pairs_longer_tracker: u64,
+    pub writer: writer::Tally,
 }
 
 pub fn compare(case: &Case, fault: Fault, rng: &mut Rng, tally: &mut Tally) -> Result<(), String> {
@@ -108,7 +110,7 @@ fn compare_without_ram(
 }
 
 /// The returned number, the words of the slice, and that what lies beyond stays.
-fn compare_words(
+pub fn compare_words(
     entry: &str,
     (number, words): (u32, ffi::AnswerWords),
     len: usize,
@@ -168,6 +170,18 @@ fn compare_ram(entry: &str, ram: &Lent, want: &Outcome) -> Result<(), String> {
         ));
     }
     guards(&format!("{entry}: RAM"), ram)
+}
+
+/// Every byte of an area against what the rules give, and the guards around it.
+pub fn compare_bytes(what: &str, area: &Lent, want: &[u8]) -> Result<(), String> {
+    if let Some(at) = first_difference(area.bytes(), want) {
+        return Err(format!(
+            "{what}: byte {at:#x} is {:#04x}; the rules give {:#04x}",
+            area.bytes()[at],
+            want[at]
+        ));
+    }
+    guards(what, area)
 }
 
 fn guards(what: &str, area: &Lent) -> Result<(), String> {

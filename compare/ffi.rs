@@ -1,4 +1,4 @@
-//! The five C entries of the library, and areas to lend to them with guard bytes on both sides.
+//! The six C entries of the library, and areas to lend to them with guard bytes or guard words on both sides.
 
 use crate::walker::Found;
 use std::sync::atomic::{AtomicU64, Ordering};
@@ -54,6 +54,18 @@ extern "C" {
         page: *mut u32,
         page_len: u64,
     ) -> u32;
+    fn rigpollen_write_block(
+        processes: *const u32,
+        process_words: u64,
+        sections: *const u32,
+        section_words: u64,
+        regions: *const u32,
+        region_words: u64,
+        buffer: *mut u8,
+        buffer_len: u64,
+        answer: *mut u32,
+        answer_len: u64,
+    ) -> u32;
 }
 
 /// More than a page of guard on each side, so that a store one page off is seen too.
@@ -107,9 +119,45 @@ impl Lent {
     }
 }
 
-/// What lies in the words around and in an `answer`, `words` or `page` slice before a call.
+/// What lies in the words around a lent list, and around and in an `answer`, `words` or `page` slice, before a call.
 fn word_pattern(at: usize) -> u32 {
     0xc3a5_0f00 + at as u32
+}
+
+const GUARD_WORDS: usize = 64;
+
+/// A list of words to be lent, in the middle of guard words.
+pub struct LentWords {
+    all: Vec<u32>,
+    len: usize,
+}
+
+impl LentWords {
+    pub fn new(words: &[u32]) -> LentWords {
+        let mut all: Vec<u32> = (0..GUARD_WORDS).map(word_pattern).collect();
+        all.extend_from_slice(words);
+        all.extend((all.len()..all.len() + GUARD_WORDS).map(word_pattern));
+        LentWords {
+            all,
+            len: words.len(),
+        }
+    }
+
+    /// Where a word of the list or a guard word has changed, counted from the start of the list.
+    pub fn changed(&self, before: &[u32]) -> Option<i64> {
+        let list = GUARD_WORDS..GUARD_WORDS + self.len;
+        let as_before = |at| match list.contains(&at) {
+            true => self.all[at] == before[at - GUARD_WORDS],
+            false => self.all[at] == word_pattern(at),
+        };
+        (0..self.all.len())
+            .find(|&at| !as_before(at))
+            .map(|at| at as i64 - GUARD_WORDS as i64)
+    }
+
+    fn start(&mut self) -> *const u32 {
+        self.all[GUARD_WORDS..].as_mut_ptr()
+    }
 }
 
 /// Where the slice begins among the words.
@@ -254,6 +302,122 @@ pub fn walk(ram: &mut Lent, start: u32, root: u32, address: u32, len: usize) -> 
         )
     };
     (number, words)
+}
+
+/// `lists` are the process, section and region records.
+pub fn write_block(
+    lists: &mut [LentWords; 3],
+    buffer: &mut Lent,
+    len: usize,
+) -> (u32, AnswerWords) {
+    let [processes, sections, regions] = lists;
+    let mut words: AnswerWords = std::array::from_fn(word_pattern);
+    let slice = &mut words[ANSWER_AT..ANSWER_AT + len];
+    // As above; `slice` has `len` words.
+    let number = unsafe {
+        rigpollen_write_block(
+            processes.start(),
+            processes.len as u64,
+            sections.start(),
+            sections.len as u64,
+            regions.start(),
+            regions.len as u64,
+            buffer.start(),
+            buffer.len as u64,
+            slice.as_mut_ptr(),
+            len as u64,
+        )
+    };
+    (number, words)
+}
+
+extern "C" {
+    fn mmap(at: *mut u8, len: usize, rights: i32, flags: i32, file: i32, from: i64) -> *mut u8;
+    fn mprotect(at: *mut u8, len: usize, rights: i32) -> i32;
+    fn munmap(at: *mut u8, len: usize) -> i32;
+}
+
+const FAR_PAGE: usize = 4096;
+
+/// `len` bytes of zero that can be read, and their first page written.
+fn far_area(len: usize) -> Result<*mut u8, String> {
+    const READ: i32 = 1;
+    const WRITE: i32 = 2;
+    const PRIVATE_ANONYMOUS_UNRESERVED: i32 = 0x4022;
+    // New memory, and a page of it.
+    let at = unsafe {
+        mmap(
+            std::ptr::null_mut(),
+            len,
+            READ,
+            PRIVATE_ANONYMOUS_UNRESERVED,
+            -1,
+            0,
+        )
+    };
+    if at as isize == -1 || unsafe { mprotect(at, FAR_PAGE, READ | WRITE) } != 0 {
+        return Err(format!("no addresses for an area of {len} bytes"));
+    }
+    Ok(at)
+}
+
+/// Areas for the writer with lengths past 2^32: one for all three lists, and a buffer. A store after a first page is a signal.
+pub struct Far {
+    lists: *mut u32,
+    buffer: *mut u8,
+}
+
+impl Drop for Far {
+    fn drop(&mut self) {
+        unsafe {
+            munmap(self.lists.cast(), Far::LIST_BYTES);
+            munmap(self.buffer, Far::BUFFER_BYTES);
+        }
+    }
+}
+
+impl Far {
+    const LIST_BYTES: usize = (1 << 36) + FAR_PAGE;
+    const BUFFER_BYTES: usize = (1 << 32) + FAR_PAGE;
+
+    /// Every list begins with these words.
+    pub fn new(words: &[u32; 4]) -> Result<Far, String> {
+        let lists = far_area(Self::LIST_BYTES)?.cast::<u32>();
+        // The first page can be written.
+        unsafe { lists.copy_from_nonoverlapping(words.as_ptr(), words.len()) };
+        Ok(Far {
+            lists,
+            buffer: far_area(Self::BUFFER_BYTES)?,
+        })
+    }
+
+    /// The number returned, place and length.
+    pub fn write_block(&mut self, words: [u64; 3], room: u64) -> [u32; 3] {
+        let most = *words.iter().max().unwrap_or(&0);
+        assert!(most <= Self::LIST_BYTES as u64 / 4 && room <= Self::BUFFER_BYTES as u64);
+        let mut answer = [u32::MAX; 3];
+        // The areas are as long as is said; the lists may share their bytes.
+        let number = unsafe {
+            rigpollen_write_block(
+                self.lists,
+                words[0],
+                self.lists,
+                words[1],
+                self.lists,
+                words[2],
+                self.buffer,
+                room,
+                answer.as_mut_ptr(),
+                3,
+            )
+        };
+        [number, answer[1], answer[2]]
+    }
+
+    /// The buffer's first page.
+    pub fn written(&self) -> &[u8] {
+        unsafe { std::slice::from_raw_parts(self.buffer, FAR_PAGE) }
+    }
 }
 
 /// The library's walk as one answer; none if the number is none of the three.

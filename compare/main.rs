@@ -1,9 +1,9 @@
-//! The independent second program: it does by 01's rules what the library does, in another way, and
+//! The independent second program: it does by the rules of 01 and 02 what the library does, in another way, and
 //! compares the two on generated inputs. It shares no code and no definitions with the library.
 //!
 //!   compare [--cases N] [--seed S]     compare N cases (20,000)
 //!   compare --seed S --case K          compare case K of that seed alone
-//!   compare --faults [--seed S]        switch 01's faults on here, one at a time: each must be found
+//!   compare --faults [--seed S]        switch faults on here, one at a time: each must be found
 //!   compare --write FILE [--cases N] [--seed S]   write N cases with what the rules give to a file
 
 mod case_file;
@@ -12,11 +12,13 @@ mod check;
 mod demand3;
 mod draft;
 mod ffi;
+mod lists;
 mod reader;
 mod rng;
 mod rules;
 mod small;
 mod walker;
+mod writer;
 
 use check::Tally;
 use rng::Rng;
@@ -71,6 +73,14 @@ fn one_case(seed: u64, number: u64, fault: Fault, tally: &mut Tally) -> Result<(
     ffi::note_case(seed, number);
     let case = cases::generate(seed, number);
     check::compare(&case, fault, &mut Rng::new(seed, number, 1), tally)
+        .and_then(|()| {
+            let mut rng = Rng::new(seed, number, 3);
+            writer::compare(&case, fault, &mut rng, &mut tally.writer)
+        })
+        .and_then(|()| match number {
+            0 => writer::compare_far(),
+            _ => Ok(()),
+        })
         .map_err(|error| format!("seed {seed} case {number} ({}): {error}", case.what))
 }
 
@@ -89,13 +99,32 @@ fn compare_cases(options: &Options) -> Result<(), String> {
         "pairs of RAM compared: {} ({} with a longer tracker); refused on the second by 1 or 11: {}",
         tally.pairs, tally.pairs_longer_tracker, tally.pairs_refused
     );
-    if let Some(number) = tally.numbers.iter().position(|&count| count == 0) {
-        return Err(format!(
-            "number {number} never came up in {} cases",
-            options.cases
-        ));
+    let writer = &tally.writer;
+    println!("writer's number  cases");
+    for (number, count) in writer.numbers.0 {
+        println!("{number:15}  {count}");
     }
+    println!(
+        "written and read: {}; blocks written back from their records: {}",
+        writer.read_back, writer.written_back
+    );
+    all_came_up(&tally).map_err(|never| format!("{never} in {} cases", options.cases))?;
     println!("compare: {} cases agree", options.cases);
+    Ok(())
+}
+
+/// Every number of the loader and of the writer, and both round trips.
+fn all_came_up(tally: &Tally) -> Result<(), String> {
+    if let Some(number) = tally.numbers.iter().position(|&count| count == 0) {
+        return Err(format!("number {number} never came up"));
+    }
+    let writer = &tally.writer;
+    if let Some(number) = writer.numbers.missing() {
+        return Err(format!("the writer's number {number} never came up"));
+    }
+    if writer.read_back == 0 || writer.written_back == 0 {
+        return Err("no block was read back, or none written back,".to_string());
+    }
     Ok(())
 }
 

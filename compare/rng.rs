@@ -4,7 +4,8 @@
 pub struct Rng(u64);
 
 impl Rng {
-    /// `stream` keeps apart what makes a case (0) from what the comparison draws for it (1).
+    /// `stream` keeps apart what makes a case (0), what the comparison draws for it (1), what a file of cases draws (2), and what is
+    /// drawn for the block writer (3).
     pub fn new(seed: u64, case: u64, stream: u64) -> Rng {
         let mut rng = Rng(seed ^ 0x5269_6770_6f6c_6c65);
         for part in [case, stream] {

@@ -36,7 +36,7 @@ fn page_flags(rights: u32) -> u32 {
     1 | rights << 1 | 64 | dirty
 }
 
-/// 01's five faults (the third has two halves), which can be switched on here to try the comparison.
+/// Faults that can be switched on here to try the comparison: 01's five (the third has two halves), and those of the block writer.
 #[derive(Clone, Copy, PartialEq, Eq)]
 pub enum Fault {
     None,
@@ -46,9 +46,14 @@ pub enum Fault {
     LeafForStack,
     CopyThenRefuse,
     OffsetOfFlash,
+    FirstComputed,
+    TouchedBefore22,
+    TailCleared,
+    SixBefore22,
+    PartRecordDropped,
 }
 
-pub const FAULTS: [(Fault, &str); 6] = [
+pub const FAULTS: [(Fault, &str); 11] = [
     (
         Fault::PartBeforeKept,
         "1 the part of a page before the section is not cleared",
@@ -72,6 +77,20 @@ pub const FAULTS: [(Fault, &str); 6] = [
     (
         Fault::OffsetOfFlash,
         "5 the sub-page offset is that of flash",
+    ),
+    (
+        Fault::FirstComputed,
+        "A2 the first section is computed, not the caller's",
+    ),
+    (Fault::TouchedBefore22, "A2 the buffer is touched before 22"),
+    (
+        Fault::TailCleared,
+        "A2 the buffer is cleared beyond the block",
+    ),
+    (Fault::SixBefore22, "A2 6 is tried before 22"),
+    (
+        Fault::PartRecordDropped,
+        "A2 words after the last whole record are dropped",
     ),
 ];
 
@@ -200,33 +219,48 @@ fn words<const N: usize>(block: &[u8], at: usize) -> [u32; N] {
     })
 }
 
+/// Whether there may be so many processes, sections and regions.
+pub fn within_bounds([p, s, r]: [u64; 3]) -> bool {
+    (1..=16).contains(&p) && (1..=64).contains(&s) && r <= 32
+}
+
+/// The tight offsets of the three lists of records, and the tight length.
+pub fn tight([p, s, r]: [u64; 3]) -> [u64; 4] {
+    [
+        32,
+        32 + 16 * p,
+        32 + 16 * p + 16 * s,
+        32 + 16 * p + 16 * s + 8 * r,
+    ]
+}
+
 /// Refusals 1 to 11, in 01's order.
 pub fn read_board(block: &[u8], flash_len: u64, ram: Ram) -> Result<Board, Refusal> {
     let bad_ram =
         ram.len % PAGE != 0 || ram.pages() > 4096 || ram.from() % PAGE != 0 || ram.to() > END;
     refuse_if(bad_ram, 1, 0)?;
+    let board = read_block(block)?;
+    check_sections(&board.processes, &board.sections, flash_len)?;
+    check_entries(&board)?;
+    check_regions(&board.regions, ram)?;
+    Ok(board)
+}
+
+/// Refusals 2 to 6: the block's records.
+pub fn read_block(block: &[u8]) -> Result<Board, Refusal> {
     refuse_if(block.len() < 32, 2, 0)?;
     let [format, length, p, p_at, s, s_at, r, r_at] = words::<8>(block, 0);
     refuse_if(format != 1, 3, 0)?;
+    let counts = [p, s, r].map(u64::from);
+    refuse_if(!within_bounds(counts), 4, 0)?;
+    let tight = tight(counts);
     refuse_if(
-        !(1..=16).contains(&p) || !(1..=64).contains(&s) || r > 32,
-        4,
-        0,
-    )?;
-    let tight = [
-        32,
-        32 + 16 * p,
-        32 + 16 * p + 16 * s,
-        32 + 16 * p + 16 * s + 8 * r,
-    ];
-    refuse_if(
-        [p_at, s_at, r_at, length] != tight || block.len() as u64 != u64::from(tight[3]),
+        [p_at, s_at, r_at, length].map(u64::from) != tight || block.len() as u64 != tight[3],
         5,
         0,
     )?;
-
     let processes = read_processes(block, p as usize, s as usize)?;
-    let sections: Vec<Section> = (0..s as usize)
+    let sections = (0..s as usize)
         .map(|i| {
             let [va, size, offset, flags] = words::<4>(block, tight[1] as usize + 16 * i);
             Section {
@@ -237,15 +271,12 @@ pub fn read_board(block: &[u8], flash_len: u64, ram: Ram) -> Result<Board, Refus
             }
         })
         .collect();
-    check_sections(&processes, &sections, flash_len)?;
-    for (i, process) in processes.iter().enumerate() {
-        let entry = u64::from(process.entry);
-        let inside = sections[process.sections.clone()]
-            .iter()
-            .any(|section| section.has(EXECUTABLE) && section.va <= entry && entry < section.end());
-        refuse_if(!inside, 10, i)?;
-    }
-    let regions = read_regions(block, tight[2] as usize, r as usize, ram)?;
+    let regions = (0..r as usize)
+        .map(|i| {
+            let [start, pages] = words::<2>(block, tight[2] as usize + 8 * i).map(u64::from);
+            Region { start, pages }
+        })
+        .collect();
     Ok(Board {
         processes,
         sections,
@@ -254,7 +285,7 @@ pub fn read_board(block: &[u8], flash_len: u64, ram: Ram) -> Result<Board, Refus
 }
 
 /// Refusal 6. The last sum is tried as part of the last record.
-fn read_processes(block: &[u8], p: usize, s: usize) -> Result<Vec<Process>, Refusal> {
+pub fn read_processes(block: &[u8], p: usize, s: usize) -> Result<Vec<Process>, Refusal> {
     let mut processes = Vec::new();
     let mut sum = 0u64;
     for i in 0..p {
@@ -306,14 +337,24 @@ fn check_sections(
     Ok(())
 }
 
+/// Refusal 10.
+fn check_entries(board: &Board) -> Result<(), Refusal> {
+    for (i, process) in board.processes.iter().enumerate() {
+        let entry = u64::from(process.entry);
+        let inside = board.sections[process.sections.clone()]
+            .iter()
+            .any(|section| section.has(EXECUTABLE) && section.va <= entry && entry < section.end());
+        refuse_if(!inside, 10, i)?;
+    }
+    Ok(())
+}
+
 /// Refusal 11.
-fn read_regions(block: &[u8], at: usize, r: usize, ram: Ram) -> Result<Vec<Region>, Refusal> {
-    let mut regions = Vec::new();
+fn check_regions(regions: &[Region], ram: Ram) -> Result<(), Refusal> {
     let mut before = 0;
     let mut total = 0;
-    for i in 0..r {
-        let [start, pages] = words::<2>(block, at + 8 * i);
-        let (start, pages) = (u64::from(start), u64::from(pages));
+    for (i, region) in regions.iter().enumerate() {
+        let (start, pages) = (region.start, region.pages);
         let end = start + PAGE * pages;
         total += pages;
         let meets_ram = ram.len > 0 && start < ram.to() && ram.from() < end;
@@ -325,9 +366,8 @@ fn read_regions(block: &[u8], at: usize, r: usize, ram: Ram) -> Result<Vec<Regio
             || total > 4096;
         refuse_if(wrong, 11, i)?;
         before = end;
-        regions.push(Region { start, pages });
     }
-    Ok(regions)
+    Ok(())
 }
 
 /// What a taken page is for. Processes are numbered from 1.

@@ -3,6 +3,7 @@
 
 use crate::draft::{Draft, ProcessRecord, RegionRecord, SectionRecord};
 use crate::rules::{self, Fault, PAGE};
+use crate::writer;
 
 pub struct Marked {
     pub name: &'static str,
@@ -175,6 +176,25 @@ pub fn check_rules() -> Result<(), String> {
     };
     if (owners(0), owners(1), owners(2)) != (1, 13, 2) {
         return Err("small board: the tracker here does not count 1 free page, 13 of process 1, 2 of process 2".to_string());
+    }
+    check_writer(&draft)
+}
+
+/// "Block 120 bytes: p 2 at 32, s 3 at 64, r 1 at 112": from its records, the writer here makes it in a buffer of 121 bytes.
+fn check_writer(draft: &Draft) -> Result<(), String> {
+    let block = draft.block();
+    let words: Vec<u32> = (0..30).map(|i| word(&block, 0, i)).collect();
+    let lists = [&words[8..16], &words[16..28], &words[28..30]].map(<[u32]>::to_vec);
+    let written = writer::write(&lists, &[0xee; 121], Fault::None);
+    let header: [u32; 8] = std::array::from_fn(|i| word(&written.buffer, 0, i));
+    if written.answer != [0, 0, 120]
+        || header != [1, 120, 2, 32, 3, 64, 1, 112]
+        || written.buffer != [&block[..], &[0xee]].concat()
+    {
+        return Err(format!(
+            "small board: the writer here gives {:?} and the header {header:?}",
+            written.answer
+        ));
     }
     Ok(())
 }

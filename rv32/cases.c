@@ -1,8 +1,8 @@
 /*
  * Tries cases of the second program on the bare machine: DATA has the file
  * that `compare --write` wrote (compare/case_file.rs has its form). Every
- * entry's answer, all of RAM, the walks, and what lies around each lent area
- * are compared. Ends with 1 if anything differs.
+ * entry's answer, all of RAM, the walks, the writer's buffer, and what lies
+ * around each lent area are compared. Ends with 1 if anything differs.
  *
  * The file's second word is 0, or a damage that this program does itself, as a
  * wrong library would: a check of the check.
@@ -17,8 +17,12 @@
 #define AROUND      4u           /* words before and after them */
 #define PATTERN     0xC3A50F00u
 #define SHOWN       20u          /* differences that are told */
+#define LISTS       3u           /* process, section and region records */
+#define WRITTEN     3u           /* words of the writer's answer, */
+#define LENGTH      2u           /* and the block's length among them */
 
-enum damage { NONE, PAST_RAM, BEFORE_RAM, BLOCK, FLASH, PAST_WORDS, STACK };
+enum damage { NONE, PAST_RAM, BEFORE_RAM, BLOCK, FLASH, PAST_WORDS, STACK,
+              PAST_BUFFER, LIST };
 
 /* An area to lend, with guard bytes on both sides, and what it must hold. */
 struct area {
@@ -44,8 +48,14 @@ struct walk {
     uint32_t root, address, number, words[RIGPOLLEN_WALK_WORDS];
 };
 
+struct writing {
+    uint32_t list_words[LISTS], buffer_length;
+    uint32_t answer[WRITTEN];
+};
+
 static enum damage damage;
-static uint32_t at_case, loads, boots, walks, processes, differences, deepest;
+static uint32_t at_case, loads, boots, walks, processes, writings, differences,
+                deepest;
 
 static void differ(const char *entry, const char *what, uint32_t expected,
                    uint32_t found)
@@ -78,6 +88,15 @@ static struct area make_area(uint8_t **room, uint32_t length, uint32_t shift)
         print("case %u: no room for its areas\n", at_case);
         power_off(2);
     }
+    return area;
+}
+
+static struct area lend(uint8_t **room, const uint8_t *bytes, uint32_t length,
+                        uint32_t shift)
+{
+    const struct area area = make_area(room, length, shift);
+
+    memcpy(area.bytes, bytes, length);
     return area;
 }
 
@@ -336,16 +355,84 @@ static const uint8_t *try_odd_tables(const uint8_t *next, uint8_t *room)
     return next;
 }
 
-/* --------------------------------------------------------------- the case */
+/* ------------------------------------------------------------- the writer */
 
-static struct area lend(uint8_t **room, const uint8_t *bytes, uint32_t length,
-                        uint32_t shift)
+static void call_writer(const struct writing *writing,
+                        const struct area lists[LISTS], struct area buffer)
 {
-    const struct area area = make_area(room, length, shift);
+    struct words words;
+    uint32_t *const answer = make_words(&words);
+    const uint32_t room = (at_case + writings) % (ROOM + 1);
+    uint32_t found;
 
-    memcpy(area.bytes, bytes, length);
-    return area;
+    stack_mark();
+    found = rigpollen_write_block((const uint32_t *)lists[0].bytes,
+                                  writing->list_words[0],
+                                  (const uint32_t *)lists[1].bytes,
+                                  writing->list_words[1],
+                                  (const uint32_t *)lists[2].bytes,
+                                  writing->list_words[2],
+                                  buffer.bytes, buffer.length, answer, room);
+    note_stack(stack_used());
+    if (found != writing->answer[0])
+        differ("rigpollen_write_block", "number", writing->answer[0], found);
+    check_words("rigpollen_write_block", &words, writing->answer,
+                WRITTEN, room);
+    writings++;
 }
+
+/* The block at the start of the buffer, and the rest as it was. */
+static void check_buffer(struct area buffer, const uint8_t *block,
+                         uint32_t length, uint8_t *room)
+{
+    const struct area expected = make_area(&room, buffer.length, 0);
+
+    make_dirty(expected, at_case);
+    memcpy(expected.bytes, block, length);
+    buffer.bytes[buffer.length] ^= damage == PAST_BUFFER;
+    check_bytes("rigpollen_write_block", "byte of the buffer", expected.bytes,
+                buffer.bytes, buffer.length);
+    check_guards("rigpollen_write_block", buffer);
+}
+
+/* One call; answers the place after it in the file. */
+static const uint8_t *try_writing(const uint8_t *next, uint8_t *room)
+{
+    const struct writing *const writing = (const struct writing *)next;
+    const uint32_t length = writing->answer[LENGTH];
+    const uint8_t *words[LISTS];
+    struct area lists[LISTS], buffer;
+
+    next += sizeof *writing;
+    for (uint32_t i = 0; i < LISTS; i++) {
+        words[i] = next;
+        lists[i] = lend(&room, next, 4 * writing->list_words[i], 0);
+        next += lists[i].length;
+    }
+    buffer = make_area(&room, writing->buffer_length, at_case / 4 % 4);
+    make_dirty(buffer, at_case);
+    call_writer(writing, lists, buffer);
+    check_buffer(buffer, next, length, room);
+    lists[0].bytes[0] ^= damage == LIST;
+    for (uint32_t i = 0; i < LISTS; i++) {
+        check_bytes("rigpollen_write_block", "byte of a list", words[i],
+                    lists[i].bytes, lists[i].length);
+        check_guards("rigpollen_write_block", lists[i]);
+    }
+    return next + length;
+}
+
+static const uint8_t *try_writings(const uint8_t *next, uint8_t *room)
+{
+    const uint32_t count = get_word(next);
+
+    next += 4;
+    for (uint32_t i = 0; i < count; i++)
+        next = try_writing(next, room);
+    return next;
+}
+
+/* --------------------------------------------------------------- the case */
 
 static const uint8_t *try_processes(const struct head *head, struct area block,
                                     struct area flash, const uint8_t *next)
@@ -405,7 +492,7 @@ static const uint8_t *try_case(const uint8_t *next)
     try_check(head, block, flash);
     try_processes(head, block, flash, list);
     check_lent(block, block_bytes, flash, flash_bytes);
-    return try_odd_tables(next, room);
+    return try_writings(try_odd_tables(next, room), room);
 }
 
 int main(void)
@@ -419,8 +506,8 @@ int main(void)
     if (deepest > RIGPOLLEN_RV32_STACK_BYTES)
         differ("all entries", "bytes of stack", RIGPOLLEN_RV32_STACK_BYTES,
                deepest);
-    print("%u cases, %u boot, %u loads, %u processes, %u walks, "
+    print("%u cases, %u boot, %u loads, %u processes, %u walks, %u writings, "
           "stack %u bytes, %u differences\n", cases, boots, loads, processes,
-          walks, deepest, differences);
+          walks, writings, deepest, differences);
     return cases == 0 || differences != 0;
 }
