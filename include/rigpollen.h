@@ -5,7 +5,7 @@
  * process from flash into RAM, and builds the Sv32 page tables, the page
  * tracker and the process list there. It either does all of this or refuses,
  * gives a number, and leaves RAM as it came. The reader walks page tables by
- * the Sv32 rules.
+ * the Sv32 rules. The writer makes a boot block from lists of records.
  *
  * Link with librigpollen.a for your machine: x86-64, or bare RV32 (ilp32,
  * rv32imac or rv32ima). The linker must supply memcpy, memmove and memset as
@@ -13,9 +13,9 @@
  * take nothing from a heap. They answer for every input: there is none that
  * they must not be given, if the areas are as said here.
  *
- * Areas. Each area is a pointer and a length. The length of `block`, `flash`
- * and `ram` counts bytes, that of `answer`, `words` and `page` counts 32-bit
- * words. Lengths have 64 bits on both machines: a declaration with size_t
+ * Areas. Each area is a pointer and a length. The length of `block`, `flash`,
+ * `ram` and `buffer` counts bytes, that of `answer`, `words`, `page`,
+ * `processes`, `sections` and `regions` counts 32-bit words. Lengths have 64 bits on both machines: a declaration with size_t
  * would be wrong on RV32.
  *   - An area with `const` is only read. It may share bytes with another area
  *     with `const`.
@@ -28,7 +28,7 @@
  *     pointer would be null.
  *   - On RV32 an area has less than 2^31 bytes, and does not hold the last
  *     byte of the address space, 0xFFFFFFFF.
- *   - Words in `block` and `ram` are little-endian bytes and need no
+ *   - Words in `block`, `ram` and `buffer` are little-endian bytes and need no
  *     alignment.
  *
  * Addresses. `ram` is where the caller reaches RAM, `ram_start` is RAM's
@@ -57,7 +57,7 @@ extern "C" {
 /* ------------------------------------------------------------ the loader */
 
 /*
- * Refusals, as all entries but the reader return them. "Place" is the second
+ * Refusals, as the loader's entries return them. "Place" is the second
  * word of the answer; it counts records from 0. The first in the
  * order of the numbers wins, with 7, 8 and 9 tried together for one section
  * before the next.
@@ -247,6 +247,67 @@ uint32_t rigpollen_walk(const uint8_t *ram, uint64_t ram_length,
                         uint32_t ram_start,
                         uint32_t root, uint32_t address,
                         uint32_t *page, uint64_t page_length);
+
+/* ------------------------------------------------------------ the writer */
+
+/*
+ * Refusals of the writer, in the order in which they are tried. None of them
+ * changes the buffer.
+ *
+ *  No.  Given exactly when                                           Place
+ *   0   (no refusal: the block is written)                           0
+ *  21   a list is not whole records, or there are not 1 to 16        0
+ *       processes, 1 to 64 sections and at most 32 regions
+ *  22   the buffer is under the length of the block                  0
+ *   6   as the loader's 6, of the block to be written; its section   process
+ *       count is that of the section list                            record
+ */
+#define RIGPOLLEN_LISTS_UNFIT      21u
+#define RIGPOLLEN_BUFFER_TOO_SHORT 22u
+
+/* How many words a record has. */
+#define RIGPOLLEN_PROCESS_RECORD_WORDS 4 /* entry point, first section,
+                                            section count, kind          */
+#define RIGPOLLEN_SECTION_RECORD_WORDS 4 /* address, size, flash offset,
+                                            flags                        */
+#define RIGPOLLEN_REGION_RECORD_WORDS  2 /* start, pages                 */
+
+/* Where the words of the writer's answer lie. */
+#define RIGPOLLEN_WRITTEN_NUMBER 0 /* 0, or the refusal's number              */
+#define RIGPOLLEN_WRITTEN_PLACE  1 /* the refused record, counted from 0      */
+#define RIGPOLLEN_WRITTEN_LENGTH 2 /* bytes of the block; 0 in a refusal      */
+#define RIGPOLLEN_WRITTEN_WORDS  3
+
+/* The bytes of the longest block: no buffer need be longer. */
+#define RIGPOLLEN_BLOCK_BYTES_MAX 1568u
+
+/*
+ * Write a boot block from lists of records.
+ *
+ *   processes, sections, regions
+ *           the records' words, one record after the other. They are taken
+ *           as they are: the first section of a process is not computed, and
+ *           what the loader refuses with 7 to 11 is not refused here.
+ *   buffer  gets the block at its start: 32 bytes, 16 for each process and
+ *           each section, 8 for each region. Bytes beyond the block stay as
+ *           they were, and in a refusal all bytes.
+ *   answer  gets number, place and length, as many as fit; words after the
+ *           third stay as they are. On success number and place are 0, in a
+ *           refusal the length is 0.
+ *
+ * The block draws none of 2 to 6, and has just these records. The records of
+ * a block that draws none of 2 to 6 give the same bytes again.
+ *
+ * Returns the number too.
+ */
+uint32_t rigpollen_write_block(const uint32_t *processes,
+                               uint64_t process_words,
+                               const uint32_t *sections,
+                               uint64_t section_words,
+                               const uint32_t *regions,
+                               uint64_t region_words,
+                               uint8_t *buffer, uint64_t buffer_length,
+                               uint32_t *answer, uint64_t answer_length);
 
 /* ----------------------------------- what a loaded board has, and where */
 

@@ -18,8 +18,6 @@
 #define PATTERN     0xC3A50F00u
 #define SHOWN       20u          /* differences that are told */
 #define LISTS       3u           /* process, section and region records */
-#define WRITTEN     3u           /* words of the writer's answer, */
-#define LENGTH      2u           /* and the block's length among them */
 
 enum damage { NONE, PAST_RAM, BEFORE_RAM, BLOCK, FLASH, PAST_WORDS, STACK,
               PAST_BUFFER, LIST };
@@ -50,7 +48,7 @@ struct walk {
 
 struct writing {
     uint32_t list_words[LISTS], buffer_length;
-    uint32_t answer[WRITTEN];
+    uint32_t answer[RIGPOLLEN_WRITTEN_WORDS];
 };
 
 static enum damage damage;
@@ -377,7 +375,7 @@ static void call_writer(const struct writing *writing,
     if (found != writing->answer[0])
         differ("rigpollen_write_block", "number", writing->answer[0], found);
     check_words("rigpollen_write_block", &words, writing->answer,
-                WRITTEN, room);
+                RIGPOLLEN_WRITTEN_WORDS, room);
     writings++;
 }
 
@@ -399,7 +397,7 @@ static void check_buffer(struct area buffer, const uint8_t *block,
 static const uint8_t *try_writing(const uint8_t *next, uint8_t *room)
 {
     const struct writing *const writing = (const struct writing *)next;
-    const uint32_t length = writing->answer[LENGTH];
+    const uint32_t length = writing->answer[RIGPOLLEN_WRITTEN_LENGTH];
     const uint8_t *words[LISTS];
     struct area lists[LISTS], buffer;
 
