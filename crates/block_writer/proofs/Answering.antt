@@ -15,7 +15,7 @@ use Rattle.rules.specs.Block.{lengthFor, entryPoint, firstSection, sectionsOf, 
 use Rattle.rules.specs.Refusals.{sectionsBefore, processUnfit, refused, accepted, firstRefusal, processChecks}
 use Rattle.rules.specs.Writer.{Records, processesIn, sectionsIn, regionsIn, blockOf, listsUnfit, bufferTooShort, writerChecks, writerVerdict, written, bufferAfter}
 use Rattle.accepted.specs.InOrder.{scan-same}
-use Rattle.round_trips.specs.RoundTrips.{accepts, accepted-whole}
+use Rattle.round_trips.specs.Accepting.{accepts, accepted-whole}
 use Rattle.round_trips.specs.WrittenBlock.{WordLists, Bounded, bounded, processes-read, sections-read, process-word-read}
 use Rattle.block_writer.specs.Lists.{processIn, sectionsBeforeIn, refusalIn, processRefusal, blockAtStart}
 

@@ -1,13 +1,13 @@
 -- The block of lists that 21 does not refuse: its words, its length, its counts, and the records that are read from it.
 use mathlib.Core.Path.{_≡_, refl, sym, _∙_}
-use mathlib.Core.Bool.{false, not}
+use mathlib.Core.Bool.{false}
 use mathlib.Core.List.{List, _++_}
-use Prim.Native.Nat.{ℕ, _+_, _-_, _*_, _%_, _≤_, _<_}
+use Prim.Native.Nat.{ℕ, _+_, _*_, _%_, _≤_, _<_}
 use native.Mathlib.Omega.{arith}
 use lib.ListN.{length, getD, drop, length-append, List·getD-append}
 use lib.Seq.{take-at, take-all, drop-at, drop-drop, getD-drop}
 use borrow.Author.Tests.{eqb-true, ltb-false, not-false}
-use Rattle.notation.specs.Words.{word, bytesOf}
+use Rattle.notation.specs.Words.{word}
 use Rattle.laws.specs.Choice.{any-none}
 use Rattle.laws.specs.Lists.{Every, _and_, every-get, every-append}
 use Rattle.laws.specs.Words.{bytes-of-length, word-of-words}
