@@ -10,7 +10,7 @@ ghost use Rattle.notation.specs.Words.{bytesOf};
 ghost use Rattle.rules.specs.Writer.{recordsIn, headerWords, listsUnfit, writerVerdict, written, bufferAfter};
 ghost use Rattle.block_writer.specs.Lists.{processIn, processRefusal, blockAtStart};
 
-// Refusal 21, for lists of so many words.
+// Refusal 21.
 fn lists_unfit(processes: &[u32], sections: &[u32], regions: &[u32]) -> bool
     ensures { λ r. ⌜ r ≡ listsUnfit (recordsIn (now (processes .entry)) (now (sections .entry)) (now (regions .entry))) ⌝ }
 {

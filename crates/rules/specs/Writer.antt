@@ -30,7 +30,7 @@ recordsOf b = recordsIn
     (gather (sectionCount b) (λ n. address b n ∷ size b n ∷ flashOffset b n ∷ flags b n ∷ []))
     (gather (regionCount b) (λ i. regionStart b i ∷ regionPages b i ∷ []))
 
--- p, s and r
+-- p, s and r. Where 21 is not given the lists are whole records (`bounded` in round_trips/WrittenBlock)
 abbrev pub processesIn : Records → ℕ
 processesIn l = length (l .processes) / 4
 
@@ -40,7 +40,8 @@ sectionsIn l = length (l .sections) / 4
 abbrev pub regionsIn : Records → ℕ
 regionsIn l = length (l .regions) / 2
 
--- THE BLOCK of these records: the header, then the records
+-- THE BLOCK of these records: the header, then the records. Where 21 is not given it has the tight length (`block-length` in
+-- round_trips/WrittenBlock)
 unfoldable pub headerWords : ℕ → ℕ → ℕ → List ℕ
 headerWords p s r = 1 ∷ lengthFor p s r ∷ p ∷ 32 ∷ s ∷ sectionsFrom p ∷ r ∷ regionsFrom p s ∷ []
 
