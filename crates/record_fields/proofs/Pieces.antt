@@ -6,7 +6,7 @@ use Prim.Native.Nat.{ℕ, zero, suc, _+_, _≤_, _<_}
 use native.Mathlib.Nat.{not-suc-le-zero, le-of-suc-le-suc, zero-add, suc-add, le-refl}
 use native.Mathlib.Numerals.{add-one}
 use native.Mathlib.Omega.{arith}
-use lib.ListN.{length, getD, take, drop}
+use lib.ListN.{length, getD, take, drop, length-drop}
 use lib.Seq.{drop-cons, take-all, drop-length}
 use Rattle.notation.specs.Choice.{choose}
 use Rattle.notation.specs.Lists.{countBefore}
@@ -32,6 +32,20 @@ module _ {A : Type 0} where
   count-before-le t (x ∷ l) = by-test (λ c. t x ≡ c → countBefore t (x ∷ l) ≤ suc (length l)) (t x)
       (λ e h. omega (arith, count-before-here t x l h))
       (λ e h. omega (arith, count-before-there t x l h, count-before-le t l)) refl
+
+  -- counted from an index on
+  pub count-before-tail : (t : A → Bool) (l m : List A) (at n : ℕ) → m ≡ drop at l → at ≤ length l → n ≡ countBefore t m
+      → (at + n ≡ at + countBefore t (drop at l)) × (at + n ≤ length l)
+  count-before-tail t l m at n e h c =
+      let f : n ≡ countBefore t (drop at l) = c ∙ rw e in
+      (ap (λ (k : ℕ). at + k) f, omega (arith, count-before-le t (drop at l), length-drop at l))
+
+  -- the element that it stops at passes
+  pub count-before-passes : (t : A → Bool) (l : List A) (d : A) → countBefore t l < length l → t (getD l (countBefore t l) d) ≡ true
+  count-before-passes t [] d h = absurd (not-suc-le-zero (rw count-before-nil at h))
+  count-before-passes t (x ∷ l) d h = by-test (λ c. t x ≡ c → t (getD (x ∷ l) (countBefore t (x ∷ l)) d) ≡ true) (t x)
+      (λ e f. rw (count-before-here t x l f) f)
+      (λ e f. rw (count-before-there t x l f) (count-before-passes t l d (omega (arith, count-before-there t x l f)))) refl
 
   -- SO FAR: none of the first i elements passes
   pub record Passed (t : A → Bool) (l : List A) (i : ℕ) : Type 0 where

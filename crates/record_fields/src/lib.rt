@@ -1,11 +1,13 @@
-// The fields of a line of records, and the numbers in them: each function answers for any input.
+// The fields of a line of records: each public function answers for any input.
+ghost use mathlib.Core.Bool.{not};
 ghost use mathlib.Core.Path.{_≡_};
-ghost use Prim.Native.Nat.{_+_, _≤_, _<_, min};
+ghost use mathlib.Core.List.{[]};
+ghost use Prim.Native.Nat.{_+_, _≤_};
 ghost use lib.Dec.{eqb};
 ghost use lib.ListN.{length, getD, drop};
+ghost use Rattle.notation.specs.Choice.{choose};
 ghost use Rattle.notation.specs.Lists.{countBefore};
 ghost use Rattle.record_fields.specs.Fields.{before, separator, fields};
-ghost use Rattle.record_fields.specs.Numbers.{digit, spelled, valueFrom, inBase, numberOf};
 
 const HASH: u8 = 35;
 
@@ -26,15 +28,91 @@ pub fn before(s: &[u8], stop: u8) -> &[u8]
 fn is_separator(c: u8) -> bool
     ensures { λ r. ⌜ r ≡ separator c ⌝ }
 {
-    match c {
-        b',' | b';' | b' ' | b'\t' | b'\r' => true,
-        _ => false,
+    if c == b',' {
+        return true;
     }
+    if c == b';' {
+        return true;
+    }
+    if c == b' ' {
+        return true;
+    }
+    if c == b'\t' {
+        return true;
+    }
+    c == b'\r'
 }
 
-pub enum Number {
-    Value(u32),
-    // A number, but one of 2^32 or more.
-    TooLarge,
-    NotOne,
+// Whether c is a separator (`until` true) or is none (`until` false).
+fn stops(c: u8, until: bool) -> bool
+    ensures { λ r. ⌜ r ≡ choose until (separator c) (not (separator c)) ⌝ }
+{
+    if until {
+        return is_separator(c);
+    }
+    !is_separator(c)
+}
+
+// How many bytes stand before the first that is a separator (`until` true) or is none (`until` false).
+fn run(s: &[u8], until: bool) -> usize
+    ensures { λ r. ⌜ r ≡ countBefore (λ c. choose until (separator c) (not (separator c))) (now (s .entry)) ⌝ }
+{
+    let mut i = 0;
+    while i < s.len() {
+        if stops(s[i], until) {
+            return i;
+        }
+        i += 1;
+    }
+    i
+}
+
+// Where the field that starts at `at` ends.
+fn field_end(text: &[u8], at: usize) -> usize
+    requires { ⌜ at ≤ length (now text) ⌝ }
+    ensures { λ r. ⌜ (r ≡ at + countBefore separator (drop at (now (text .entry)))) × (r ≤ length (now (text .entry))) ⌝ }
+{
+    at + run(slices::tail(text, at), true)
+}
+
+// Where the first field from `at` on starts; the end where there is none.
+fn field_start(text: &[u8], at: usize) -> usize
+    requires { ⌜ at ≤ length (now text) ⌝ }
+    ensures { λ r. ⌜ (r ≡ at + countBefore (λ c. not (separator c)) (drop at (now (text .entry)))) × (r ≤ length (now (text .entry))) ⌝ }
+{
+    at + run(slices::tail(text, at), false)
+}
+
+// How many fields a line has.
+pub fn field_count(line: &[u8]) -> usize
+    ensures { λ r. ⌜ r ≡ length (fields (now (line .entry))) ⌝ }
+{
+    let text = before(line, HASH);
+    let mut at = field_start(text, 0);
+    let mut k = 0;
+    while at < text.len() {
+        let end = field_end(text, at);
+        at = field_start(text, end);
+        k += 1;
+    }
+    k
+}
+
+// Field n of a line, counted from 0; no bytes where there is none.
+pub fn field(line: &[u8], n: usize) -> &[u8]
+    ensures { λ r. ⌜ now r ≡ getD (fields (now (line .entry))) n [] ⌝ }
+{
+    let text = before(line, HASH);
+    let mut at = field_start(text, 0);
+    let mut k = 0;
+    while k < n {
+        if text.len() <= at {
+            return slices::tail(text, at);
+        }
+        let end = field_end(text, at);
+        at = field_start(text, end);
+        k += 1;
+    }
+    let rest = slices::tail(text, at);
+    slices::part(rest, 0, run(rest, true))
 }

@@ -1,0 +1,16 @@
+use mathlib.Core.Path.{sym}
+use borrow.Author.Tests.{lt-leb, le-leb}
+use Rattle.record_numbers.specs.Numbers.{between}
+use Rattle.record_numbers.proofs.within.Statement.{statement}
+use Rattle.record_numbers.proofs.within.Tie as tie
+
+returns : tie.Need-returns
+unfolding between
+returns c = rw (lt-leb _ _ (c .if1 .taken))
+
+returns-2 : tie.Need-returns-2
+unfolding between
+returns-2 c = rw (le-leb _ _ (c .if1 .left))
+
+pub within-spec : {M : Type 1} → statement M
+within-spec = tie.close (tie.spec returns returns-2)
