@@ -13,6 +13,7 @@ use Rattle.notation.specs.Choice.{choose}
 use Rattle.notation.specs.Lists.{countBefore}
 use Rattle.laws.specs.Choice.{by-test, choose-yes, choose-no}
 use Rattle.record_fields.specs.Fields.{pieces, nonEmpty, separator}
+use Rattle.record_fields.proofs.Cursor.{Cursor, cursor-first, cursor-next, cursor-item, cursor-count, cursor-none}
 use Rattle.record_fields.proofs.Pieces.{count-before-nil, count-before-here, count-before-there, count-before-le, count-before-passes, pieces-cons}
 
 -- the fields of a text without a comment
@@ -55,13 +56,9 @@ fields-word (c ∷ l) h e =
     ap nonEmpty (pieces-cons separator (c ∷ l) h)
     ∙ rw (count-before-there separator c l e) (non-empty-cons c _ _ ∙ ap (λ (ps : List (List ℕ)). (c ∷ take (countBefore separator l) l) ∷ ps) (sym (fields-after l)))
 
--- k fields are passed, and the next one starts at `at`, or `at` is the end
-pub record Cursor (t : List ℕ) (at k : ℕ) : Type 0 where
-  pub passed : List (List ℕ)
-  pub count : length passed ≡ k
-  pub all : fieldsIn t ≡ passed ++ fieldsIn (drop at t)
-  pub inside : at ≤ length t
-  pub few : k ≤ at
+-- a cursor at which a field starts, or at the end
+pub record AtField (t : List ℕ) (at k : ℕ) : Type 0 where
+  pub cursor : Cursor fieldsIn (fieldsIn t) t at k
   pub starts : at < length t → separator (getD t at 0) ≡ false
 
 -- from `at` on the first field starts at r
@@ -77,55 +74,43 @@ module _ (t : List ℕ) (at r : ℕ) (h : at ≤ length t) (e : r ≡ at + count
       let p = count-before-passes plain (drop at t) 0 (omega (arith, length-drop at t)) in
       not-true _ (rw e (rw (getD-drop at t (countBefore plain (drop at t)) 0) at p))
 
-pub cursor-first : (t : List ℕ) (r : ℕ) → r ≡ 0 + countBefore plain (drop 0 t) → Cursor t r 0
-cursor-first t r e = record {
-  passed = [];
-  count = refl;
-  all = sym (start-fields t 0 r (omega arith) e);
-  inside = start-inside t 0 r (omega arith) e;
-  few = omega arith;
+pub field-first : (t : List ℕ) (r : ℕ) → r ≡ 0 + countBefore plain (drop 0 t) → AtField t r 0
+field-first t r e = record {
+  cursor = cursor-first fieldsIn r (start-inside t 0 r (omega arith) e) (sym (start-fields t 0 r (omega arith) e));
   starts = start-plain t 0 r (omega arith) e;
 }
 
--- the word at `at` ends at e, behind `at`
-module _ (t : List ℕ) (at k : ℕ) (p : Cursor t at k) (h : at < length t) (e : ℕ) (w : e ≡ at + countBefore separator (drop at t)) where
-  cursor-word : fieldsIn (drop at t) ≡ take (countBefore separator (drop at t)) (drop at t) ∷ fieldsIn (drop e t)
-  cursor-word =
+-- the field at `at` ends at e
+module _ (t : List ℕ) (at k : ℕ) (p : AtField t at k) (h : at < length t) (e : ℕ) (w : e ≡ at + countBefore separator (drop at t)) where
+  field-word : fieldsIn (drop at t) ≡ take (countBefore separator (drop at t)) (drop at t) ∷ fieldsIn (drop e t)
+  field-word =
       let f : separator (getD (drop at t) 0 0) ≡ false = rw (getD-drop at t 0 0, add-zero) (p .starts h) in
       fields-word (drop at t) (omega (arith, length-drop at t)) f ∙ rw (w, drop-drop)
 
-  pub cursor-moves : at < e
-  cursor-moves =
+  pub field-moves : at < e
+  field-moves =
       let f : separator (getD t at 0) ≡ false = p .starts h in
       let n : countBefore separator (drop at t) ≡ suc (countBefore separator (drop (suc at) t)) = rw (drop-cons t at 0 h) (count-before-there separator (getD t at 0) _ f) in
       omega arith
 
-  pub cursor-next : (r : ℕ) → e ≤ length t → r ≡ e + countBefore plain (drop e t) → Cursor t r (k + 1)
-  cursor-next r i s = record {
-    passed = p .passed ++ (take (countBefore separator (drop at t)) (drop at t) ∷ []);
-    count = length-append (p .passed) _ ∙ omega (arith, p .count);
-    all = p .all ∙ rw (cursor-word, append-assoc, start-fields t e r i s);
-    inside = start-inside t e r i s;
-    few = omega (arith, cursor-moves, p .few);
+  pub field-next : (r : ℕ) → e ≤ length t → r ≡ e + countBefore plain (drop e t) → AtField t r (k + 1)
+  field-next r i s = record {
+    cursor = cursor-next fieldsIn (p .cursor) (take (countBefore separator (drop at t)) (drop at t)) r (field-word ∙ rw (start-fields t e r i s)) (omega (arith, field-moves)) (start-inside t e r i s);
     starts = start-plain t e r i s;
   }
 
 -- where no text is left, k is the number of fields
-pub cursor-count : {t : List ℕ} {at k : ℕ} → Cursor t at k → length t ≤ at → k ≡ length (fieldsIn t)
-cursor-count {t} {at} p h =
-    let n : fieldsIn (drop at t) ≡ [] = rw (drop-of-length-le t {i = at} h) fields-nil in
-    sym (rw (p .all, n, length-append) (omega (arith, p .count)))
+pub field-count-is : {t : List ℕ} {at k : ℕ} → AtField t at k → length t ≤ at → k ≡ length (fieldsIn t)
+field-count-is p h = cursor-count fieldsIn fields-nil (p .cursor) h
 
--- .. and no field has a number from k on
-pub cursor-none : {t : List ℕ} {at k : ℕ} (n : ℕ) → Cursor t at k → length t ≤ at → k ≤ n → drop at t ≡ getD (fieldsIn t) n []
-cursor-none {t} {at} n p h l =
-    drop-of-length-le t h ∙ sym (List·getD-eq-default (fieldsIn t) [] {n = n} (omega (arith, cursor-count p h)))
+pub field-none : {t : List ℕ} {at k : ℕ} (n : ℕ) → AtField t at k → length t ≤ at → k ≤ n → drop at t ≡ getD (fieldsIn t) n []
+field-none n p h l = cursor-none fieldsIn fields-nil (p .cursor) h n l
 
 -- the field at a cursor
-pub cursor-field : {t : List ℕ} {at k : ℕ} → Cursor t at k → take (countBefore separator (drop at t)) (drop at t) ≡ getD (fieldsIn t) k []
-cursor-field {t} {at} {k} p = elim (decLt at (length t)) [
-  | yes h ↦ sym (rw (p .all, cursor-word t at k p h _ refl) (getD-at (p .passed) _ _ [] k (p .count)))
+pub field-here : {t : List ℕ} {at k : ℕ} → AtField t at k → take (countBefore separator (drop at t)) (drop at t) ≡ getD (fieldsIn t) k []
+field-here {t} {at} {k} p = elim (decLt at (length t)) [
+  | yes h ↦ cursor-item fieldsIn (p .cursor) _ _ (field-word t at k p h _ refl)
   | no h ↦
       let e : length t ≤ at = omega arith in
-      rw (drop-of-length-le t {i = at} e, take-nil) (sym (drop-of-length-le t {i = at} e) ∙ cursor-none k p e (omega arith))
+      rw (drop-of-length-le t {i = at} e, take-nil) (sym (drop-of-length-le t {i = at} e) ∙ field-none k p e (omega arith))
 ]

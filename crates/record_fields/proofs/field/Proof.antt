@@ -3,13 +3,13 @@ use Prim.Native.Nat.{_-_, _≤_}
 use native.Mathlib.Omega.{arith}
 use Rattle.notation.specs.Choice.{choose}
 use Rattle.record_fields.specs.Fields.{hash, fields}
-use Rattle.record_fields.proofs.Fields.{Cursor, cursor-first, cursor-next, cursor-none, cursor-field}
+use Rattle.record_fields.proofs.Fields.{AtField, field-first, field-next, field-none, field-here}
 use borrow.Author.Needs.{needs}
 use Rattle.record_fields.proofs.field.Statement.{statement}
 use Rattle.record_fields.proofs.field.Tie as tie
 
 abbrev Inv-loop : tie.InvT-loop
-Inv-loop line n text at₀ k₀ at k = (k ≤ n) × Cursor text at k
+Inv-loop line n text at₀ k₀ at k = (k ≤ n) × AtField text at k
 
 abbrev μ-loop : tie.MeasureT-loop
 μ-loop line n text at₀ k₀ at k = n - k
@@ -21,7 +21,7 @@ field-start-requires : tie.Need-field-start-requires Inv-loop μ-loop
 field-start-requires c κs = search needs
 
 loop-holds : tie.Need-loop-holds Inv-loop μ-loop
-loop-holds c = (omega arith, cursor-first _ _ (c .field-start .ensures .0))
+loop-holds c = (omega arith, field-first _ _ (c .field-start .ensures .0))
 
 tail-requires : tie.Need-tail-requires Inv-loop μ-loop
 tail-requires c κs = search needs
@@ -30,7 +30,7 @@ returns : tie.Need-returns Inv-loop μ-loop
 unfolding fields hash
 returns c =
     let l = c .before .before .before in
-    c .tail .ensures ∙ cursor-none _ (l .loop .inv .1) (c .before .if1 .taken) (l .loop .inv .0) ∙ rw (l .before .before .before2 .ensures)
+    c .tail .ensures ∙ field-none _ (l .loop .inv .1) (c .before .if1 .taken) (l .loop .inv .0) ∙ rw (l .before .before .before2 .ensures)
 
 field-end-requires : tie.Need-field-end-requires Inv-loop μ-loop
 field-end-requires c κs = search needs
@@ -48,7 +48,7 @@ loop-again : tie.Need-loop-again Inv-loop μ-loop
 loop-again c =
     let l = c .before .before .before .before in
     let end = c .before .field-end .ensures in
-    (omega arith, cursor-next _ _ _ (l .loop .inv .1) (c .before .before .if1 .left) _ (end .0) _ (end .1) (c .field-start2 .ensures .0))
+    (omega arith, field-next _ _ _ (l .loop .inv .1) (c .before .before .if1 .left) _ (end .0) _ (end .1) (c .field-start2 .ensures .0))
 
 tail-requires-2 : tie.Need-tail-requires-2 Inv-loop μ-loop
 tail-requires-2 c κs = search needs
@@ -64,7 +64,7 @@ unfolding fields hash choose
 returns-2 c =
     let l = c .before .before .before .before in
     let all : l .loop .k ≡ l .before .before .before .before .args .n = omega (arith, l .loop .inv .0) in
-    c .part .ensures ∙ rw (c .before .run .ensures, c .before .before .tail2 .ensures) (cursor-field (l .loop .inv .1) ∙ rw (all, l .before .before .before2 .ensures))
+    c .part .ensures ∙ rw (c .before .run .ensures, c .before .before .tail2 .ensures) (field-here (l .loop .inv .1) ∙ rw (all, l .before .before .before2 .ensures))
 
 pub field-spec : {M : Type 1} → statement M
 field-spec =
