@@ -1,0 +1,61 @@
+use Rattle.text.proofs.Appended.{appended-then, appended-length}
+use borrow.Author.Needs.{needs}
+use Rattle.write_report.proofs.put_count.Statement.{statement}
+use Rattle.write_report.proofs.put_count.Tie as tie
+
+field-requires : tie.Need-field-requires
+field-requires c κs = search needs
+
+put-shown-requires : tie.Need-put-shown-requires
+put-shown-requires c κs = search needs
+
+slice-aggregate-put : tie.Need-slice-aggregate-put
+slice-aggregate-put c = search needs
+
+put-requires : tie.Need-put-requires
+put-requires c κs = search needs
+
+put-decimal-requires : tie.Need-put-decimal-requires
+put-decimal-requires c κs = search needs
+
+slice-aggregate-put-2 : tie.Need-slice-aggregate-put-2
+slice-aggregate-put-2 c = search needs
+
+put-requires-2 : tie.Need-put-requires-2
+put-requires-2 c κs = search needs
+
+put-verb-requires : tie.Need-put-verb-requires
+put-verb-requires c κs = search needs
+
+slice-aggregate-put-3 : tie.Need-slice-aggregate-put-3
+slice-aggregate-put-3 c = search needs
+
+put-requires-3 : tie.Need-put-requires-3
+put-requires-3 c κs = search needs
+
+put-decimal-requires-2 : tie.Need-put-decimal-requires-2
+put-decimal-requires-2 c κs = search needs
+
+same-length : tie.Need-same-length
+same-length c = appended-length (appended-then (rw (c .before .before .before .before .before .before .before .before .before .before .before .before .before .before .before .before .before .before .before .before .before .before .before .before .before .before .before .before .before .before .field .ensures) at (c .before .before .before .before .before .before .before .before .before .before .before .before .before .before .before .before .before .before .before .before .before .before .before .before .before .before .before .before .before .put-shown .ensures)) (appended-then (c .before .before .before .before .before .before .before .before .before .before .before .before .before .before .before .before .before .before .before .before .before .before .before .before .put .ensures) (appended-then (c .before .before .before .before .before .before .before .before .before .before .before .before .before .before .before .before .before .before .before .before .put-decimal .ensures) (appended-then (c .before .before .before .before .before .before .before .before .before .before .before .before .before .before .before .put2 .ensures) (appended-then (c .before .before .before .before .before .before .before .before .before .before .before .put-verb .ensures) (appended-then (c .before .before .before .before .before .before .put3 .ensures) (c .before .before .put-decimal2 .ensures)))))))
+
+returns : tie.Need-returns
+returns c = appended-then (rw (c .before .before .before .before .before .before .before .before .before .before .before .before .before .before .before .before .before .before .before .before .before .before .before .before .before .before .before .before .before .before .field .ensures) at (c .before .before .before .before .before .before .before .before .before .before .before .before .before .before .before .before .before .before .before .before .before .before .before .before .before .before .before .before .before .put-shown .ensures)) (appended-then (c .before .before .before .before .before .before .before .before .before .before .before .before .before .before .before .before .before .before .before .before .before .before .before .before .put .ensures) (appended-then (c .before .before .before .before .before .before .before .before .before .before .before .before .before .before .before .before .before .before .before .before .put-decimal .ensures) (appended-then (c .before .before .before .before .before .before .before .before .before .before .before .before .before .before .before .put2 .ensures) (appended-then (c .before .before .before .before .before .before .before .before .before .before .before .put-verb .ensures) (appended-then (c .before .before .before .before .before .before .put3 .ensures) (c .before .before .put-decimal2 .ensures))))))
+
+pub put-count-spec : {M : Type 1} → statement M
+put-count-spec =
+    tie.close
+    (tie.spec
+    field-requires
+    put-shown-requires
+    slice-aggregate-put
+    put-requires
+    put-decimal-requires
+    slice-aggregate-put-2
+    put-requires-2
+    put-verb-requires
+    slice-aggregate-put-3
+    put-requires-3
+    put-decimal-requires-2
+    same-length
+    returns)

@@ -1,0 +1,165 @@
+// The block that is written from a text of records, and the reply: what is wrong with a line, the refusal, or what was written.
+ghost use mathlib.Core.Path.{_≡_};
+ghost use mathlib.Core.List.{[], _++_};
+ghost use Prim.Native.Nat.{min};
+ghost use lib.Dec.{eqb};
+ghost use lib.ListN.{length, getD};
+ghost use Rattle.notation.specs.Choice.{choose};
+ghost use Rattle.notation.specs.Lists.{tab};
+ghost use Rattle.rules.specs.Writer.{recordsIn};
+ghost use Rattle.text.specs.Text.{Appended};
+ghost use Rattle.record_fields.specs.Fields.{fields};
+ghost use Rattle.write_report.specs.Lines.{shownByte, shown, verb, causeText, faultLine, refusedLine, counted, countsText, blockLine};
+ghost use Rattle.write_report.specs.Replies.{replyTo, lengthFrom, bufferFrom};
+use record_lines::Line;
+use types::Written;
+
+// The length of the block that was written, 0 where none was; and where the reply ends.
+pub struct Reply {
+    pub length: u32,
+    pub end: usize,
+}
+
+// A byte of a field as it is shown.
+fn shown_byte(c: u8) -> u8
+    ensures { λ r. ⌜ r ≡ shownByte c ⌝ }
+{
+    if c < 33 {
+        return b'?';
+    }
+    if 126 < c {
+        return b'?';
+    }
+    c
+}
+
+// At most the first 40 bytes of a field.
+fn put_shown_bytes(to: &mut [u8], at: usize, field: &[u8]) -> usize
+    ensures { λ r. ⌜ Appended (now (to .entry)) at (tab (min 40 (length (now (field .entry)))) (λ i. shownByte (getD (now (field .entry)) i 0))) (now (to .exit)) r ⌝ }
+{
+    let n = numbers::least(40, field.len());
+    let mut end = numbers::least(at, to.len());
+    let mut i = 0;
+    while i < n {
+        let one = [shown_byte(slices::byte(field, i))];
+        end = text::put(to, end, &one);
+        i += 1;
+    }
+    end
+}
+
+// A field as it is shown.
+fn put_shown(to: &mut [u8], at: usize, field: &[u8]) -> usize
+    ensures { λ r. ⌜ Appended (now (to .entry)) at (shown (now (field .entry))) (now (to .exit)) r ⌝ }
+{
+    let end = put_shown_bytes(to, at, field);
+    if 40 < field.len() {
+        return text::put(to, end, b"..");
+    }
+    text::put(to, end, b"")
+}
+
+// A text, and then field k of a line.
+fn put_field(to: &mut [u8], at: usize, before: &[u8], line: &[u8], k: usize) -> usize
+    ensures { λ r. ⌜ Appended (now (to .entry)) at (now (before .entry) ++ shown (getD (fields (now (line .entry))) k [])) (now (to .exit)) r ⌝ }
+{
+    let end = text::put(to, at, before);
+    put_shown(to, end, record_fields::field(line, k))
+}
+
+fn put_verb(to: &mut [u8], at: usize, n: usize) -> usize
+    ensures { λ r. ⌜ Appended (now (to .entry)) at (verb n) (now (to .exit)) r ⌝ }
+{
+    if n == 1 {
+        return text::put(to, at, b"is");
+    }
+    text::put(to, at, b"are")
+}
+
+// What is wrong with a line whose word has n numbers, and which has m.
+fn put_count(to: &mut [u8], at: usize, line: &[u8], n: usize, m: usize) -> usize
+    ensures { λ r. ⌜ Appended (now (to .entry)) at (causeText (Line.WrongCount n m) (fields (now (line .entry)))) (now (to .exit)) r ⌝ }
+{
+    let word = put_shown(to, at, record_fields::field(line, 0));
+    let has = text::put(to, word, b" has ");
+    let should = text::put_decimal(to, has, n as u64);
+    let here = text::put(to, should, b" numbers, here ");
+    let is = put_verb(to, here, m);
+    let blank = text::put(to, is, b" ");
+    text::put_decimal(to, blank, m as u64)
+}
+
+// What is wrong with a line, which says `said`.
+fn put_cause(to: &mut [u8], at: usize, said: Line, line: &[u8]) -> usize
+    ensures { λ r. ⌜ Appended (now (to .entry)) at (causeText said (fields (now (line .entry)))) (now (to .exit)) r ⌝ }
+{
+    match said {
+        Line::UnknownWord => put_field(to, at, b"not process, section or region: ", line, 0),
+        Line::WrongCount(n, m) => put_count(to, at, line, n, m),
+        Line::NotNumber(k) => put_field(to, at, b"not a number: ", line, k),
+        Line::TooLarge(k) => put_field(to, at, b"over 32 bits: ", line, k),
+        Line::Empty => text::put(to, at, b""),
+        Line::Process(_, _, _, _) => text::put(to, at, b""),
+        Line::Section(_, _, _, _) => text::put(to, at, b""),
+        Line::Region(_, _) => text::put(to, at, b""),
+    }
+}
+
+fn put_fault(to: &mut [u8], number: usize, line: &[u8]) -> usize
+    ensures { λ r. ⌜ Appended (now (to .entry)) 0 (faultLine number (now (line .entry))) (now (to .exit)) r ⌝ }
+{
+    let start = text::put(to, 0, b"line ");
+    let after = text::put_decimal(to, start, number as u64);
+    let colon = text::put(to, after, b": ");
+    let cause = put_cause(to, colon, record_lines::read_line(line), line);
+    text::put(to, cause, b"\n")
+}
+
+fn put_refused(to: &mut [u8], number: u32, place: u32) -> usize
+    ensures { λ r. ⌜ Appended (now (to .entry)) 0 (refusedLine number place) (now (to .exit)) r ⌝ }
+{
+    let start = text::put(to, 0, b"refused ");
+    let after = text::put_decimal(to, start, number as u64);
+    let at = text::put(to, after, b" at ");
+    let end = text::put_decimal(to, at, place as u64);
+    text::put(to, end, b"\n")
+}
+
+fn put_ending(to: &mut [u8], at: usize, n: usize, ending: &[u8]) -> usize
+    ensures { λ r. ⌜ Appended (now (to .entry)) at (choose (eqb n 1) [] (now (ending .entry))) (now (to .exit)) r ⌝ }
+{
+    if n == 1 {
+        return text::put(to, at, b"");
+    }
+    text::put(to, at, ending)
+}
+
+// A number of things.
+fn put_counted(to: &mut [u8], at: usize, n: usize, word: &[u8], ending: &[u8]) -> usize
+    ensures { λ r. ⌜ Appended (now (to .entry)) at (counted n (now (word .entry)) (now (ending .entry))) (now (to .exit)) r ⌝ }
+{
+    let number = text::put_decimal(to, at, n as u64);
+    let thing = text::put(to, number, word);
+    put_ending(to, thing, n, ending)
+}
+
+// How many records of each kind there are.
+fn put_counts(to: &mut [u8], at: usize, p: usize, s: usize, r: usize) -> usize
+    ensures { λ end. ⌜ Appended (now (to .entry)) at (countsText p s r) (now (to .exit)) end ⌝ }
+{
+    let processes = put_counted(to, at, p, b" process", b"es");
+    let second = text::put(to, processes, b", ");
+    let sections = put_counted(to, second, s, b" section", b"s");
+    let third = text::put(to, sections, b", ");
+    put_counted(to, third, r, b" region", b"s")
+}
+
+fn put_block(to: &mut [u8], length: u32, p: usize, s: usize, r: usize) -> usize
+    ensures { λ end. ⌜ Appended (now (to .entry)) 0 (blockLine length p s r) (now (to .exit)) end ⌝ }
+{
+    let start = text::put(to, 0, b"block ");
+    let number = text::put_decimal(to, start, length as u64);
+    let bytes = text::put(to, number, b" bytes: ");
+    let counts = put_counts(to, bytes, p, s, r);
+    text::put(to, counts, b"\n")
+}
