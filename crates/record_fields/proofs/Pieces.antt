@@ -10,7 +10,7 @@ use lib.ListN.{length, getD, take, drop, length-drop}
 use lib.Seq.{drop-cons, take-all, drop-length}
 use Rattle.notation.specs.Choice.{choose}
 use Rattle.notation.specs.Lists.{countBefore}
-use Rattle.laws.specs.Choice.{by-test, choose-yes, choose-no}
+use Rattle.laws.specs.Choice.{by-test, by-choose, choose-yes, choose-no}
 use Rattle.record_fields.specs.Fields.{before, onFirst, pieces, nonEmpty}
 
 module _ {A : Type 0} where
@@ -86,3 +86,16 @@ module _ {A : Type 0} where
   pieces-cons t (x ∷ l) h = by-test (λ c. t x ≡ c → pieces t (x ∷ l) ≡ take (countBefore t (x ∷ l)) (x ∷ l) ∷ pieces t (drop (suc (countBefore t (x ∷ l))) (x ∷ l))) (t x)
       (λ e f. choose-yes _ _ f ∙ rw (count-before-here t x l f))
       (λ e f. choose-no _ _ f ∙ rw (count-before-there t x l f) (pieces-first t x l (pieces-cons t l))) refl
+
+  -- there are no more pieces than elements
+  on-first-length : (x : A) (ps : List (List A)) → length (onFirst x ps) ≤ suc (length ps)
+  unfolding onFirst
+  on-first-length x [] = omega arith
+  on-first-length x (p ∷ ps) = omega arith
+
+  pub pieces-length : (t : A → Bool) (l : List A) → length (pieces t l) ≤ length l
+  unfolding pieces
+  pieces-length t [] = omega arith
+  pieces-length t (x ∷ l) = by-choose (λ (ps : List (List A)). length ps ≤ suc (length l)) (t x) ([] ∷ pieces t l) (onFirst x (pieces t l))
+      (λ e. omega (arith, pieces-length t l))
+      (λ e. omega (arith, pieces-length t l, on-first-length x (pieces t l)))

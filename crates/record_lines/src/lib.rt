@@ -146,7 +146,10 @@ fn read_numbered(word: Word, line: &[u8], count: usize) -> Line
 {
     let k = first_unread(line, count);
     if k < count {
-        return fault_at(k, record_numbers::read_number(record_fields::field(line, k)));
+        return fault_at(
+            k,
+            record_numbers::read_number(record_fields::field(line, k)),
+        );
     }
     record_of(
         word,

@@ -27,7 +27,7 @@ pub put-full : (xs : List ℕ) (at w : ℕ) → length xs ≤ at → Appended xs
 unfolding copied
 put-full xs at w h = record {
   bytes-are = ext-getD 0 xs (copied xs at (w ∷ [])) (sym (tab-length (length xs) _)) (λ k l.
-    sym (tab-get (length xs) _ k 0 l ∙ choose-no _ _ (rw (lt-leb at k (omega arith)))));
+      sym (tab-get (length xs) _ k 0 l ∙ choose-no _ _ (rw (lt-leb at k (omega arith)))));
   end-is = omega arith;
 }
 
@@ -35,16 +35,16 @@ pub put-one : (xs : List ℕ) (at w : ℕ) → at < length xs → Appended xs at
 unfolding copied
 put-one xs at w h = record {
   bytes-are = ext-getD 0 (set xs at w) (copied xs at (w ∷ [])) (length-set xs at w ∙ sym (tab-length (length xs) _)) (λ k l.
-    let i : k < length xs = omega (arith, length-set xs at w) in
-    elim (ℕ-discrete k at) [
-      | yes e ↦
-          let z : k - at ≡ 0 = omega arith in
-          let a : getD (set xs at w) k 0 ≡ w = rw e (getD-set-same xs at w 0 h) in
-          let b : getD (copied xs at (w ∷ [])) k 0 ≡ getD (w ∷ []) (k - at) 0
-          = tab-get (length xs) _ k 0 i ∙ choose-yes _ _ (rw (le-leb at k (omega arith), lt-ltb k (at + 1) (omega arith))) in
-          a ∙ sym (b ∙ rw z)
-      | no e ↦ getD-set-other xs at k w 0 e ∙ sym (tab-get (length xs) _ k 0 i ∙ choose-no _ _ (outside k e))
-    ]);
+      let i : k < length xs = omega (arith, length-set xs at w) in
+      elim (ℕ-discrete k at) [
+        | yes e ↦
+            let z : k - at ≡ 0 = omega arith in
+            let a : getD (set xs at w) k 0 ≡ w = rw e (getD-set-same xs at w 0 h) in
+            let b : getD (copied xs at (w ∷ [])) k 0 ≡ getD (w ∷ []) (k - at) 0
+            = tab-get (length xs) _ k 0 i ∙ choose-yes _ _ (rw (le-leb at k (omega arith), lt-ltb k (at + 1) (omega arith))) in
+            a ∙ sym (b ∙ rw z)
+        | no e ↦ getD-set-other xs at k w 0 e ∙ sym (tab-get (length xs) _ k 0 i ∙ choose-no _ _ (outside k e))
+      ]);
   end-is = omega arith;
 }
   where

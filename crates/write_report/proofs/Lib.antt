@@ -1,1 +1,3 @@
 pub mod Shown
+pub mod Held
+pub mod Replies

@@ -1,12 +1,11 @@
 // The block that is written from a text of records, and the reply: what is wrong with a line, the refusal, or what was written.
 ghost use mathlib.Core.Path.{_≡_};
 ghost use mathlib.Core.List.{[], _++_};
-ghost use Prim.Native.Nat.{min};
+ghost use Prim.Native.Nat.{_+_, _/_, _≤_, min};
 ghost use lib.Dec.{eqb};
 ghost use lib.ListN.{length, getD};
 ghost use Rattle.notation.specs.Choice.{choose};
 ghost use Rattle.notation.specs.Lists.{tab};
-ghost use Rattle.rules.specs.Writer.{recordsIn};
 ghost use Rattle.text.specs.Text.{Appended};
 ghost use Rattle.record_fields.specs.Fields.{fields};
 ghost use Rattle.write_report.specs.Lines.{shownByte, shown, verb, causeText, faultLine, refusedLine, counted, countsText, blockLine};
@@ -162,4 +161,67 @@ fn put_block(to: &mut [u8], length: u32, p: usize, s: usize, r: usize) -> usize
     let bytes = text::put(to, number, b" bytes: ");
     let counts = put_counts(to, bytes, p, s, r);
     text::put(to, counts, b"\n")
+}
+
+// What was written, from so many words of records of each kind, or the refusal.
+fn put_written(to: &mut [u8], written: Written, p: usize, s: usize, r: usize) -> usize
+    ensures { λ end. ⌜ Appended (now (to .entry)) 0 (choose (eqb (written .number) 0) (blockLine (written .length) (p / 4) (s / 4) (r / 2)) (refusedLine (written .number) (written .place))) (now (to .exit)) end ⌝ }
+{
+    if written.number != 0 {
+        return put_refused(to, written.number, written.place);
+    }
+    put_block(to, written.length, p / 4, s / 4, r / 2)
+}
+
+// The same as write_from_text, with slices to hold the words of the records: one record more of each kind than a block may have.
+fn write_held(
+    text: &[u8],
+    processes: &mut [u32],
+    sections: &mut [u32],
+    regions: &mut [u32],
+    block: &mut [u8],
+    reply: &mut [u8],
+) -> Reply
+    requires { ⌜ (68 ≤ length (now processes)) × (260 ≤ length (now sections)) × (66 ≤ length (now regions)) ⌝ }
+    ensures { λ r. ⌜ (r .length ≡ lengthFrom (now (text .entry)) (length (now (block .entry))))
+        × (now (block .exit) ≡ bufferFrom (now (text .entry)) (now (block .entry)))
+        × Appended (now (reply .entry)) 0 (replyTo (now (text .entry)) (length (now (block .entry)))) (now (reply .exit)) (r .end) ⌝ }
+{
+    let read = record_texts::read_records(text, processes, sections, regions);
+    let n = read.lines;
+    let line = record_texts::line_at(text, n);
+    if record_lines::is_faulty(record_lines::read_line(line)) {
+        let end = put_fault(reply, n + 1, line);
+        return Reply { length: 0, end };
+    }
+    let p = read.processes;
+    let s = read.sections;
+    let r = read.regions;
+    let written = block_writer::write_block(&processes[..p], &sections[..s], &regions[..r], block);
+    let end = put_written(reply, written, p, s, r);
+    Reply {
+        length: written.length,
+        end,
+    }
+}
+
+// Writes the block of a text's records at the start of `block`, and puts the reply at the start of `reply`, as much of it as there is
+// room for. Where a line is at fault, and in a refusal, the bytes of `block` stay. Of each kind one record more is held than a block
+// may have, and none beyond: 21 is drawn all the same.
+pub fn write_from_text(text: &[u8], block: &mut [u8], reply: &mut [u8]) -> Reply
+    ensures { λ r. ⌜ (r .length ≡ lengthFrom (now (text .entry)) (length (now (block .entry))))
+        × (now (block .exit) ≡ bufferFrom (now (text .entry)) (now (block .entry)))
+        × Appended (now (reply .entry)) 0 (replyTo (now (text .entry)) (length (now (block .entry)))) (now (reply .exit)) (r .end) ⌝ }
+{
+    let mut processes = [0u32; 68];
+    let mut sections = [0u32; 260];
+    let mut regions = [0u32; 66];
+    write_held(
+        text,
+        &mut processes,
+        &mut sections,
+        &mut regions,
+        block,
+        reply,
+    )
 }
