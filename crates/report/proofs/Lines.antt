@@ -16,7 +16,8 @@ use Rattle.rules.specs.Order.{rootTable, pagesOf}
 use Rattle.rules.specs.Load.{physPage, answer}
 use Rattle.text.specs.Text.{Appended}
 use Rattle.text.proofs.Appended.{appended-then}
-use Rattle.report.specs.Lines.{bootLine, processLine, refusedLine}
+use Rattle.refusal_line.specs.Line.{refusedLine}
+use Rattle.report.specs.Lines.{bootLine, processLine}
 use Rattle.report.specs.Listing.{processLines, listing}
 
 -- LINES

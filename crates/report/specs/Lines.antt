@@ -1,11 +1,7 @@
 -- The lines of the listing.
 use mathlib.Core.List.{List, [], _∷_, _++_}
 use Prim.Native.Nat.{ℕ}
-use Rattle.text.specs.Text.{numeral}
-
--- two numbers in a text: before, between and after them
-unfoldable pub twoNumbers : List ℕ → ℕ → List ℕ → ℕ → List ℕ → List ℕ
-twoNumbers before n between m after = before ++ (numeral 10 n ++ (between ++ (numeral 10 m ++ after)))
+use Rattle.text.specs.Text.{numeral, twoNumbers}
 
 -- `boot N pages, F free`
 unfoldable pub bootLine : ℕ → ℕ → List ℕ
@@ -21,10 +17,3 @@ processLine q m root = twoNumbers
     (32 ∷ 112 ∷ 97 ∷ 103 ∷ 101 ∷ 115 ∷ 32 ∷ []) m
     (32 ∷ 114 ∷ 111 ∷ 111 ∷ 116 ∷ 32 ∷ [])
     ++ (numeral 16 root ++ (10 ∷ []))
-
--- `refused N at P`
-unfoldable pub refusedLine : ℕ → ℕ → List ℕ
-refusedLine number place = twoNumbers
-    (114 ∷ 101 ∷ 102 ∷ 117 ∷ 115 ∷ 101 ∷ 100 ∷ 32 ∷ []) number
-    (32 ∷ 97 ∷ 116 ∷ 32 ∷ []) place
-    (10 ∷ [])

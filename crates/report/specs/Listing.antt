@@ -9,7 +9,8 @@ use Rattle.rules.specs.Lent.{Image, Ram, ramArea, pagesIn}
 use Rattle.rules.specs.Block.{processCount}
 use Rattle.rules.specs.Order.{rootTable, pagesOf}
 use Rattle.rules.specs.Load.{physPage, answer}
-use Rattle.report.specs.Lines.{bootLine, processLine, refusedLine}
+use Rattle.refusal_line.specs.Line.{refusedLine}
+use Rattle.report.specs.Lines.{bootLine, processLine}
 
 -- a line for each of the first n processes, where RAM has these pages: its pages, and its root's page number
 unfoldable pub processLines : List ℕ → PageRange → ℕ → List ℕ

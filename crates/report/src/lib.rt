@@ -10,33 +10,14 @@ ghost use Rattle.rules.specs.Refusals.{verdict};
 ghost use Rattle.rules.specs.Load.{physPage, ramAfter};
 ghost use Rattle.order_laws.specs.Places.{processPages, userPages};
 ghost use Rattle.text.specs.Text.{Appended};
-ghost use Rattle.report.specs.Lines.{twoNumbers, bootLine, processLine, refusedLine};
+ghost use Rattle.report.specs.Lines.{bootLine, processLine};
 ghost use Rattle.report.specs.Listing.{processLines, listing};
 use order_roots::Root;
-
-// A text with two numbers in it.
-fn two_numbers(
-    to: &mut [u8],
-    at: usize,
-    before: &[u8],
-    n: u64,
-    between: &[u8],
-    m: u64,
-    after: &[u8],
-) -> usize
-    ensures { λ r. ⌜ Appended (now (to .entry)) at (twoNumbers (now (before .entry)) n (now (between .entry)) m (now (after .entry))) (now (to .exit)) r ⌝ }
-{
-    let first = text::put(to, at, before);
-    let middle = text::put_decimal(to, first, n);
-    let second = text::put(to, middle, between);
-    let last = text::put_decimal(to, second, m);
-    text::put(to, last, after)
-}
 
 fn boot_line(to: &mut [u8], at: usize, pages: u64, free: u32) -> usize
     ensures { λ r. ⌜ Appended (now (to .entry)) at (bootLine pages free) (now (to .exit)) r ⌝ }
 {
-    two_numbers(
+    text::put_two_numbers(
         to,
         at,
         b"boot ",
@@ -50,23 +31,9 @@ fn boot_line(to: &mut [u8], at: usize, pages: u64, free: u32) -> usize
 fn process_line(to: &mut [u8], at: usize, q: u32, pages: u64, root: u32) -> usize
     ensures { λ r. ⌜ Appended (now (to .entry)) at (processLine q pages root) (now (to .exit)) r ⌝ }
 {
-    let table = two_numbers(to, at, b"pid ", q as u64, b" pages ", pages, b" root ");
+    let table = text::put_two_numbers(to, at, b"pid ", q as u64, b" pages ", pages, b" root ");
     let end = text::put_hex(to, table, root as u64);
     text::put(to, end, b"\n")
-}
-
-fn refused_line(to: &mut [u8], at: usize, number: u32, place: u32) -> usize
-    ensures { λ r. ⌜ Appended (now (to .entry)) at (refusedLine number place) (now (to .exit)) r ⌝ }
-{
-    two_numbers(
-        to,
-        at,
-        b"refused ",
-        number as u64,
-        b" at ",
-        place as u64,
-        b"\n",
-    )
 }
 
 // The kernel's pages: what the users' sections leave of those taken.
@@ -138,7 +105,7 @@ pub fn load_listing(block: &[u8], flash: &[u8], ram: &mut [u8], start: u32, to: 
     let len = ram.len();
     let answer = loader::load(block, flash, ram, start);
     if answer.number != 0 {
-        return refused_line(to, 0, answer.number, answer.place);
+        return refusal_line::put_refused(to, 0, answer.number, answer.place);
     }
     let lines = boot_line(to, 0, (len / 4096) as u64, answer.free);
     let kernel = kernel_pages(block, answer.taken);

@@ -1,6 +1,6 @@
 -- Text in a lent buffer, and numbers as text.
 use mathlib.Core.Path.{_≡_}
-use mathlib.Core.List.{List}
+use mathlib.Core.List.{List, _++_}
 use Prim.Native.Nat.{ℕ, _+_, _^_, min}
 use lib.ListN.{length}
 use lib.Dec.{ltb}
@@ -22,3 +22,7 @@ places b n = 1 + countBefore (λ k. ltb n (b ^ (k + 1))) (tab 20 (λ k. k))
 -- n in base b, small letters, no leading zeros
 unfoldable pub numeral : ℕ → ℕ → List ℕ
 numeral b n = digits b (places b n) n
+
+-- two numbers in a text: before, between and after them
+unfoldable pub twoNumbers : List ℕ → ℕ → List ℕ → ℕ → List ℕ → List ℕ
+twoNumbers before n between m after = before ++ (numeral 10 n ++ (between ++ (numeral 10 m ++ after)))

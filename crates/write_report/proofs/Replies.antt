@@ -19,7 +19,8 @@ use Rattle.record_fields.proofs.Pieces.{pieces-length}
 use Rattle.record_lines.specs.declared.Line.the-variants.{Empty}
 use Rattle.record_lines.specs.Lines.{saidBy, lineOf, faulty}
 use Rattle.record_texts.specs.Texts.{lineFeed, markLength, lines, soundLines, processWords, sectionWords, regionWords, wordsOf}
-use Rattle.write_report.specs.Lines.{faultLine, refusedLine, blockLine}
+use Rattle.refusal_line.specs.Line.{refusedLine}
+use Rattle.write_report.specs.Lines.{faultLine, blockLine}
 use Rattle.write_report.specs.Replies.{faultyLine, atFault, recordsFrom, writtenLine, replyTo, lengthFrom, bufferFrom}
 use Rattle.write_report.proofs.Held.{held-take, cut-alike, success-short}
 

@@ -55,11 +55,6 @@ unfoldable pub faultLine : ℕ → List ℕ → List ℕ
 faultLine n line =
     (108 ∷ 105 ∷ 110 ∷ 101 ∷ 32 ∷ []) ++ (numeral 10 n ++ ((58 ∷ 32 ∷ []) ++ (causeText (lineOf line) (fields line) ++ (10 ∷ []))))
 
--- A REFUSAL: `refused N at P`
-unfoldable pub refusedLine : ℕ → ℕ → List ℕ
-refusedLine number place =
-    (114 ∷ 101 ∷ 102 ∷ 117 ∷ 115 ∷ 101 ∷ 100 ∷ 32 ∷ []) ++ (numeral 10 number ++ ((32 ∷ 97 ∷ 116 ∷ 32 ∷ []) ++ (numeral 10 place ++ (10 ∷ []))))
-
 -- SUCCESS
 -- a number of things: the ending stands where there is not one of them
 unfoldable pub counted : ℕ → List ℕ → List ℕ → List ℕ

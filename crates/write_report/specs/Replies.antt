@@ -9,7 +9,8 @@ use Rattle.types.specs.declared.Written.{Written}
 use Rattle.rules.specs.Writer.{Records, recordsIn, processesIn, sectionsIn, regionsIn, written, bufferAfter}
 use Rattle.record_lines.specs.Lines.{lineOf, faulty}
 use Rattle.record_texts.specs.Texts.{lines, soundLines, processWords, sectionWords, regionWords, wordsOf}
-use Rattle.write_report.specs.Lines.{faultLine, refusedLine, blockLine}
+use Rattle.refusal_line.specs.Line.{refusedLine}
+use Rattle.write_report.specs.Lines.{faultLine, blockLine}
 
 -- the first line that is at fault; no bytes where none is
 unfoldable pub faultyLine : List ℕ → List ℕ

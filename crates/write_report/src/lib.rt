@@ -8,7 +8,8 @@ ghost use Rattle.notation.specs.Choice.{choose};
 ghost use Rattle.notation.specs.Lists.{tab};
 ghost use Rattle.text.specs.Text.{Appended};
 ghost use Rattle.record_fields.specs.Fields.{fields};
-ghost use Rattle.write_report.specs.Lines.{shownByte, shown, verb, causeText, faultLine, refusedLine, counted, countsText, blockLine};
+ghost use Rattle.refusal_line.specs.Line.{refusedLine};
+ghost use Rattle.write_report.specs.Lines.{shownByte, shown, verb, causeText, faultLine, counted, countsText, blockLine};
 ghost use Rattle.write_report.specs.Replies.{replyTo, lengthFrom, bufferFrom};
 use record_lines::Line;
 use types::Written;
@@ -114,16 +115,6 @@ fn put_fault(to: &mut [u8], number: usize, line: &[u8]) -> usize
     text::put(to, cause, b"\n")
 }
 
-fn put_refused(to: &mut [u8], number: u32, place: u32) -> usize
-    ensures { λ r. ⌜ Appended (now (to .entry)) 0 (refusedLine number place) (now (to .exit)) r ⌝ }
-{
-    let start = text::put(to, 0, b"refused ");
-    let after = text::put_decimal(to, start, number as u64);
-    let at = text::put(to, after, b" at ");
-    let end = text::put_decimal(to, at, place as u64);
-    text::put(to, end, b"\n")
-}
-
 fn put_ending(to: &mut [u8], at: usize, n: usize, ending: &[u8]) -> usize
     ensures { λ r. ⌜ Appended (now (to .entry)) at (choose (eqb n 1) [] (now (ending .entry))) (now (to .exit)) r ⌝ }
 {
@@ -168,7 +159,7 @@ fn put_written(to: &mut [u8], written: Written, p: usize, s: usize, r: usize) ->
     ensures { λ end. ⌜ Appended (now (to .entry)) 0 (choose (eqb (written .number) 0) (blockLine (written .length) (p / 4) (s / 4) (r / 2)) (refusedLine (written .number) (written .place))) (now (to .exit)) end ⌝ }
 {
     if written.number != 0 {
-        return put_refused(to, written.number, written.place);
+        return refusal_line::put_refused(to, 0, written.number, written.place);
     }
     put_block(to, written.length, p / 4, s / 4, r / 2)
 }

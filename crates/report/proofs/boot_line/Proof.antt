@@ -3,32 +3,32 @@ use borrow.Author.Needs.{needs}
 use Rattle.report.proofs.boot_line.Statement.{statement}
 use Rattle.report.proofs.boot_line.Tie as tie
 
-slice-aggregate-two-numbers : tie.Need-slice-aggregate-two-numbers
-slice-aggregate-two-numbers c = search needs
+slice-aggregate-put-two-numbers : tie.Need-slice-aggregate-put-two-numbers
+slice-aggregate-put-two-numbers c = search needs
 
-slice-aggregate-two-numbers-2 : tie.Need-slice-aggregate-two-numbers-2
-slice-aggregate-two-numbers-2 c = search needs
+slice-aggregate-put-two-numbers-2 : tie.Need-slice-aggregate-put-two-numbers-2
+slice-aggregate-put-two-numbers-2 c = search needs
 
-slice-aggregate-two-numbers-3 : tie.Need-slice-aggregate-two-numbers-3
-slice-aggregate-two-numbers-3 c = search needs
+slice-aggregate-put-two-numbers-3 : tie.Need-slice-aggregate-put-two-numbers-3
+slice-aggregate-put-two-numbers-3 c = search needs
 
-two-numbers-requires : tie.Need-two-numbers-requires
-two-numbers-requires c κs = search needs
+put-two-numbers-requires : tie.Need-put-two-numbers-requires
+put-two-numbers-requires c κs = search needs
 
 same-length : tie.Need-same-length
 same-length c = search needs
 
 returns : tie.Need-returns
 unfolding bootLine
-returns c = c .before .before .two-numbers .ensures
+returns c = c .before .before .put-two-numbers .ensures
 
 pub boot-line-spec : {M : Type 1} → statement M
 boot-line-spec =
     tie.close
     (tie.spec
-    slice-aggregate-two-numbers
-    slice-aggregate-two-numbers-2
-    slice-aggregate-two-numbers-3
-    two-numbers-requires
+    slice-aggregate-put-two-numbers
+    slice-aggregate-put-two-numbers-2
+    slice-aggregate-put-two-numbers-3
+    put-two-numbers-requires
     same-length
     returns)

@@ -8,8 +8,8 @@ use Rattle.report.proofs.load_listing.Tie as tie
 load-requires : tie.Need-load-requires
 load-requires c κs = search needs
 
-refused-line-requires : tie.Need-refused-line-requires
-refused-line-requires c κs = search needs
+put-refused-requires : tie.Need-put-refused-requires
+put-refused-requires c κs = search needs
 
 same-length : tie.Need-same-length
 same-length c = search needs
@@ -21,7 +21,7 @@ returns : tie.Need-returns
 returns c =
     let loaded = c .before .before .before .before .before .before .before .before in
     let start = loaded .before .before .before .before .before .before in
-    (loaded .load .ensures .1, listed-refused (imageOf _ (start .args .flash .now)) (ramOf _ (start .args .ram .now)) _ (loaded .load .ensures .0) (c .before .before .before .before .if1 .taken) (c .before .before .refused-line .ensures))
+    (loaded .load .ensures .1, listed-refused (imageOf _ (start .args .flash .now)) (ramOf _ (start .args .ram .now)) _ (loaded .load .ensures .0) (c .before .before .before .before .if1 .taken) (c .before .before .put-refused .ensures))
 
 boot-line-requires : tie.Need-boot-line-requires
 boot-line-requires c κs = search needs
@@ -54,7 +54,7 @@ load-listing-spec =
     tie.close
     (tie.spec
     load-requires
-    refused-line-requires
+    put-refused-requires
     same-length
     same-length-2
     returns

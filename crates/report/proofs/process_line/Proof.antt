@@ -4,17 +4,17 @@ use borrow.Author.Needs.{needs}
 use Rattle.report.proofs.process_line.Statement.{statement}
 use Rattle.report.proofs.process_line.Tie as tie
 
-slice-aggregate-two-numbers : tie.Need-slice-aggregate-two-numbers
-slice-aggregate-two-numbers c = search needs
+slice-aggregate-put-two-numbers : tie.Need-slice-aggregate-put-two-numbers
+slice-aggregate-put-two-numbers c = search needs
 
-slice-aggregate-two-numbers-2 : tie.Need-slice-aggregate-two-numbers-2
-slice-aggregate-two-numbers-2 c = search needs
+slice-aggregate-put-two-numbers-2 : tie.Need-slice-aggregate-put-two-numbers-2
+slice-aggregate-put-two-numbers-2 c = search needs
 
-slice-aggregate-two-numbers-3 : tie.Need-slice-aggregate-two-numbers-3
-slice-aggregate-two-numbers-3 c = search needs
+slice-aggregate-put-two-numbers-3 : tie.Need-slice-aggregate-put-two-numbers-3
+slice-aggregate-put-two-numbers-3 c = search needs
 
-two-numbers-requires : tie.Need-two-numbers-requires
-two-numbers-requires c κs = search needs
+put-two-numbers-requires : tie.Need-put-two-numbers-requires
+put-two-numbers-requires c κs = search needs
 
 put-hex-requires : tie.Need-put-hex-requires
 put-hex-requires c κs = search needs
@@ -34,16 +34,16 @@ returns c =
     let last = c .before .before in
     let root = last .before .before .before .before .before in
     let start = root .before .before .before .before in
-    appended-then (start .two-numbers .ensures) (appended-then (root .put-hex .ensures) (last .put .ensures))
+    appended-then (start .put-two-numbers .ensures) (appended-then (root .put-hex .ensures) (last .put .ensures))
 
 pub process-line-spec : {M : Type 1} → statement M
 process-line-spec =
     tie.close
     (tie.spec
-    slice-aggregate-two-numbers
-    slice-aggregate-two-numbers-2
-    slice-aggregate-two-numbers-3
-    two-numbers-requires
+    slice-aggregate-put-two-numbers
+    slice-aggregate-put-two-numbers-2
+    slice-aggregate-put-two-numbers-3
+    put-two-numbers-requires
     put-hex-requires
     slice-aggregate-put
     put-requires

@@ -1,8 +1,8 @@
 use Rattle.text.proofs.Appended.{appended-then}
-use Rattle.report.specs.Lines.{twoNumbers}
+use Rattle.text.specs.Text.{twoNumbers}
 use borrow.Author.Needs.{needs}
-use Rattle.report.proofs.two_numbers.Statement.{statement}
-use Rattle.report.proofs.two_numbers.Tie as tie
+use Rattle.text.proofs.put_two_numbers.Statement.{statement}
+use Rattle.text.proofs.put_two_numbers.Tie as tie
 
 put-requires : tie.Need-put-requires
 put-requires c κs = search needs
@@ -35,8 +35,8 @@ returns c =
     (appended-then (middle .put2 .ensures)
     (appended-then (second .put-decimal2 .ensures) (last .put3 .ensures))))
 
-pub two-numbers-spec : {M : Type 1} → statement M
-two-numbers-spec =
+pub put-two-numbers-spec : {M : Type 1} → statement M
+put-two-numbers-spec =
     tie.close
     (tie.spec
     put-requires
