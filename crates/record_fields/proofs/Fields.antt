@@ -1,17 +1,16 @@
 -- The fields of a text, one after the other.
 use mathlib.Core.Path.{_≡_, refl, sym, ap, _∙_}
-use mathlib.Core.List.{List, [], _∷_, _++_, append-assoc}
+use mathlib.Core.List.{List, [], _∷_}
 use mathlib.Core.Bool.{Bool, true, false, not}
-use Prim.Native.Nat.{ℕ, zero, suc, _+_, _≤_, _<_}
-use native.Mathlib.Nat.{not-suc-le-zero, zero-add, add-zero}
+use Prim.Native.Nat.{ℕ, suc, _+_, _≤_, _<_}
+use native.Mathlib.Nat.{not-suc-le-zero, add-zero}
 use native.Mathlib.Decide.{decLt}
 use native.Mathlib.Omega.{arith}
-use lib.ListN.{length, getD, take, drop, length-append, length-drop, drop-of-length-le, List·getD-eq-default}
-use lib.Seq.{drop-cons, drop-drop, getD-drop, getD-at, take-nil}
+use lib.ListN.{length, getD, take, drop, length-drop, drop-of-length-le}
+use lib.Seq.{drop-cons, drop-drop, getD-drop, take-nil}
 use borrow.Author.Tests.{not-true}
-use Rattle.notation.specs.Choice.{choose}
 use Rattle.notation.specs.Lists.{countBefore}
-use Rattle.laws.specs.Choice.{by-test, choose-yes, choose-no}
+use Rattle.laws.specs.Choice.{by-test, choose-yes}
 use Rattle.record_fields.specs.Fields.{pieces, nonEmpty, separator}
 use Rattle.record_fields.proofs.Cursor.{Cursor, cursor-first, cursor-next, cursor-item, cursor-count, cursor-none}
 use Rattle.record_fields.proofs.Pieces.{count-before-nil, count-before-here, count-before-there, count-before-le, count-before-passes, pieces-cons}

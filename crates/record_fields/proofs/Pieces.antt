@@ -1,17 +1,16 @@
 -- Laws of searches in a list and of its pieces.
 use mathlib.Core.Path.{_≡_, refl, sym, ap, _∙_}
-use mathlib.Core.List.{List, [], _∷_, _++_}
+use mathlib.Core.List.{List, [], _∷_}
 use mathlib.Core.Bool.{Bool, true, false}
-use Prim.Native.Nat.{ℕ, zero, suc, _+_, _≤_, _<_}
-use native.Mathlib.Nat.{not-suc-le-zero, le-of-suc-le-suc, zero-add, suc-add, le-refl}
+use Prim.Native.Nat.{ℕ, suc, _+_, _≤_, _<_}
+use native.Mathlib.Nat.{not-suc-le-zero, zero-add, le-refl}
 use native.Mathlib.Numerals.{add-one}
 use native.Mathlib.Omega.{arith}
 use lib.ListN.{length, getD, take, drop, length-drop}
-use lib.Seq.{drop-cons, take-all, drop-length}
-use Rattle.notation.specs.Choice.{choose}
+use lib.Seq.{drop-cons, drop-length}
 use Rattle.notation.specs.Lists.{countBefore}
 use Rattle.laws.specs.Choice.{by-test, by-choose, choose-yes, choose-no}
-use Rattle.record_fields.specs.Fields.{before, onFirst, pieces, nonEmpty}
+use Rattle.record_fields.specs.Fields.{onFirst, pieces}
 
 module _ {A : Type 0} where
   -- COUNT BEFORE

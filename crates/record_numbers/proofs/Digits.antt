@@ -2,7 +2,7 @@
 use mathlib.Core.Path.{_≡_, refl, sym, ap, _∙_}
 use mathlib.Core.Logic.{_≢_}
 use mathlib.Core.List.{List, [], _∷_}
-use mathlib.Core.Bool.{Bool, true, false, _&&_}
+use mathlib.Core.Bool.{Bool, true, false}
 use Prim.Native.Nat.{ℕ, suc, _+_, _-_, _*_, _≤_, _<_, min}
 use native.Mathlib.Nat.{mul-le-mul, le-refl, mul-one}
 use native.Mathlib.Numerals.{add-one}
@@ -12,7 +12,6 @@ use lib.Dec.{leb, eqb}
 use lib.ListN.{length, getD, drop}
 use lib.Seq.{drop-cons, drop-length}
 use borrow.Author.Tests.{leb-true, lt-ltb, le-ltb, eq-eqb, ne-eqb}
-use Rattle.notation.specs.Choice.{choose}
 use Rattle.notation.specs.Lists.{someOf}
 use Rattle.laws.specs.Choice.{choose-yes, choose-no, and-left, and-right, and-both, and-not-left, and-not-right}
 use Rattle.record_numbers.specs.Numbers.{between, digit, spelled, valueFrom, inBase, numberOf}

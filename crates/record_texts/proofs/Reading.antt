@@ -2,14 +2,14 @@
 use mathlib.Core.Path.{_≡_, refl, sym, ap, _∙_}
 use mathlib.Core.List.{List, [], _∷_, _++_, map}
 use mathlib.Core.Bool.{true, false}
-use Prim.Native.Nat.{ℕ, suc, _+_, _≤_, _<_, min}
+use Prim.Native.Nat.{ℕ, _+_, _≤_, _<_, min}
 use native.Mathlib.Omega.{arith}
-use lib.ListN.{length, take, drop, length-map, drop-of-length-le}
+use lib.ListN.{length, drop, length-map, drop-of-length-le}
 use Rattle.notation.specs.Lists.{countBefore}
 use Rattle.laws.specs.Lists.{Every, every-append}
 use Rattle.text.specs.Text.{Appended}
 use Rattle.text.proofs.Appended.{appended-none}
-use Rattle.record_fields.specs.Fields.{before, pieces}
+use Rattle.record_fields.specs.Fields.{before}
 use Rattle.record_fields.proofs.Pieces.{count-before-nil, count-before-here, count-before-there}
 use Rattle.record_fields.proofs.Cursor.{cursor-first, cursor-next}
 use Rattle.record_lines.specs.declared.Line.{Line}

@@ -3,7 +3,7 @@ use mathlib.Core.Bool.{Bool, _&&_}
 use mathlib.Core.List.{List, [], _∷_, _++_, map}
 use Prim.Native.Nat.{ℕ, _+_}
 use lib.Dec.{eqb}
-use lib.ListN.{length, getD, drop}
+use lib.ListN.{getD, drop}
 use Rattle.notation.specs.Choice.{choose}
 use Rattle.record_fields.specs.Fields.{before, pieces}
 use Rattle.record_lines.specs.declared.Line.{Line}

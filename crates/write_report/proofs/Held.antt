@@ -2,10 +2,10 @@
 use mathlib.Core.Path.{_≡_, refl, sym, ap, _∙_}
 use mathlib.Core.Bool.{Bool, true, false, not}
 use mathlib.Core.List.{List, [], _∷_}
-use Prim.Native.Nat.{ℕ, zero, suc, _+_, _-_, _/_, _%_, _≤_, _<_, min}
+use Prim.Native.Nat.{ℕ, zero, suc, _+_, _-_, _≤_, _<_}
 use native.Mathlib.Decide.{decLt}
 use native.Mathlib.Omega.{arith}
-use lib.Dec.{eqb, ltb}
+use lib.Dec.{ltb}
 use lib.ListN.{length, getD, take, length-take}
 use lib.Seq.{ext-getD, getD-take, take-all, length-take-le}
 use borrow.Author.Tests.{lt-ltb, le-leb}
@@ -14,7 +14,7 @@ use Rattle.laws.specs.Choice.{choose-yes}
 use Rattle.laws.specs.Lists.{tab-get}
 use Rattle.types.specs.declared.Written.{Written}
 use Rattle.rules.specs.Refusals.{outside, countsOutside, refused}
-use Rattle.rules.specs.Writer.{Records, recordsIn, processesIn, sectionsIn, regionsIn, listsUnfit, writerVerdict, written, bufferAfter}
+use Rattle.rules.specs.Writer.{Records, recordsIn, processesIn, sectionsIn, regionsIn, listsUnfit, written, bufferAfter}
 use Rattle.block_writer.proofs.Answering.{verdict-21}
 use Rattle.stores.specs.Writes.{copied}
 use Rattle.text.specs.Text.{Appended}

@@ -2,7 +2,7 @@
 use mathlib.Core.Path.{_≡_, refl, sym, ap, _∙_}
 use mathlib.Core.Bool.{true, false}
 use mathlib.Core.List.{List, []}
-use Prim.Native.Nat.{ℕ, _+_, _/_, _≤_, _<_, min}
+use Prim.Native.Nat.{ℕ, _+_, _/_, _≤_}
 use native.Mathlib.Decide.{decLt}
 use native.Mathlib.Omega.{arith}
 use lib.Dec.{eqb}
@@ -12,7 +12,7 @@ use Rattle.notation.specs.Choice.{choose}
 use Rattle.notation.specs.Lists.{countBefore}
 use Rattle.laws.specs.Choice.{choose-yes, choose-no, choose-same, false-not-true}
 use Rattle.types.specs.declared.Written.{Written}
-use Rattle.rules.specs.Writer.{Records, recordsIn, processesIn, sectionsIn, regionsIn, written, bufferAfter}
+use Rattle.rules.specs.Writer.{recordsIn, processesIn, sectionsIn, regionsIn, written, bufferAfter}
 use Rattle.text.specs.Text.{Appended}
 use Rattle.record_fields.specs.Fields.{before, pieces, nonEmpty, fields}
 use Rattle.record_fields.proofs.Pieces.{pieces-length}

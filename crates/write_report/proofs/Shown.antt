@@ -1,12 +1,10 @@
 -- A field as it is shown.
-use mathlib.Core.Path.{_≡_, refl, sym, _∙_}
-use mathlib.Core.List.{List, [], _∷_, _++_}
-use Prim.Native.Nat.{ℕ, suc, _+_, _<_, min}
+use mathlib.Core.Path.{_≡_}
+use mathlib.Core.List.{List, [], _∷_}
+use Prim.Native.Nat.{ℕ, _+_, min}
 use native.Mathlib.Numerals.{add-one}
 use lib.ListN.{length, getD}
-use borrow.Author.Tests.{lt-leb, le-leb}
 use Rattle.notation.specs.Lists.{tab}
-use Rattle.laws.specs.Choice.{choose-yes, choose-no, and-both, and-not-left, and-not-right}
 use Rattle.laws.specs.Lists.{tab-next}
 use Rattle.text.specs.Text.{Appended}
 use Rattle.text.proofs.Appended.{appended-none, appended-then}

@@ -1,12 +1,11 @@
 use mathlib.Core.Path.{sym, _∙_}
 use Prim.Native.Nat.{_-_}
 use lib.Dec.{eqb}
-use lib.ListN.{length, take}
+use lib.ListN.{length}
 use lib.Seq.{take-all}
 use borrow.Author.Tests.{eq-eqb, ne-eqb}
 use Rattle.record_fields.specs.Fields.{before}
 use Rattle.record_fields.proofs.Pieces.{Passed, passed-none, passed-next, passed-here, passed-all}
-use native.Mathlib.Omega.{arith}
 use borrow.Author.Needs.{needs}
 use Rattle.record_fields.proofs.before.Statement.{statement}
 use Rattle.record_fields.proofs.before.Tie as tie

@@ -1,5 +1,4 @@
 use borrow.Author.Tests.{eq-eqb, ne-eqb}
-use borrow.Author.Needs.{needs}
 use Rattle.notation.specs.Choice.{any}
 use Rattle.laws.specs.Choice.{or-none}
 use Rattle.record_fields.specs.Fields.{separator}

@@ -5,7 +5,6 @@ use lib.ListN.{length}
 use Rattle.notation.specs.Choice.{choose}
 use Rattle.record_fields.specs.Fields.{separator}
 use Rattle.record_fields.proofs.Pieces.{Passed, passed-none, passed-next, passed-here, passed-all}
-use native.Mathlib.Omega.{arith}
 use borrow.Author.Needs.{needs}
 use Rattle.record_fields.proofs.run.Statement.{statement}
 use Rattle.record_fields.proofs.run.Tie as tie

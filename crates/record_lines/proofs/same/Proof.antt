@@ -1,4 +1,3 @@
-use mathlib.Core.Path.{sym, _∙_}
 use Prim.Native.Nat.{_-_}
 use lib.ListN.{length}
 use Rattle.record_lines.proofs.Lines.{same-other-length, Matched, matched-none, matched-next, matched-not, matched-all}

@@ -1,4 +1,3 @@
-use mathlib.Core.Path.{sym}
 use borrow.Author.Tests.{lt-leb, le-leb}
 use Rattle.record_numbers.specs.Numbers.{between}
 use Rattle.record_numbers.proofs.within.Statement.{statement}
