@@ -6,6 +6,7 @@ ghost use lib.ListN.{length};
 ghost use Prim.Native.Nat.{_≤_};
 use libc::STDERR_FILENO;
 use libc::STDOUT_FILENO;
+use numerals::Number;
 
 // RAM's pages at most.
 const PAGES: u32 = 16;
@@ -15,12 +16,6 @@ const PAGES: u32 = 16;
 enum File {
     Whole(usize),
     Longer,
-    Unread,
-}
-
-// A number of an argument; or it was said what is wrong with it.
-enum Number {
-    Value(u32),
     Unread,
 }
 
@@ -87,94 +82,20 @@ fn read_file(name: &[u8], buf: &mut [u8]) -> File {
     file
 }
 
-// Stands for no number of 32 bits.
-const NO_NUMBER: u64 = 0x1_0000_0000;
-
-// A digit's value, 16 for any other byte.
-fn digit_value(c: u8) -> u64
-    ensures { λ r. ⌜ r ≤ 16 ⌝ }
-{
-    if c < b'0' {
-        return 16;
-    }
-    if c <= b'9' {
-        return (c - b'0') as u64;
-    }
-    if c < b'A' {
-        return 16;
-    }
-    if c <= b'F' {
-        return (c - b'A') as u64 + 10;
-    }
-    if c < b'a' {
-        return 16;
-    }
-    if c <= b'f' {
-        return (c - b'a') as u64 + 10;
-    }
-    16
-}
-
-// The number with one more digit.
-fn with_digit(value: u64, base: u64, c: u8) -> u64
-    requires { ⌜ base ≤ 16 ⌝ }
-    ensures { λ r. ⌜ r ≤ 0x1_0000_0000 ⌝ }
-{
-    let d = digit_value(c);
-    if d >= base {
-        return NO_NUMBER;
-    }
-    if value >= NO_NUMBER {
-        return NO_NUMBER;
-    }
-    let longer = value * base + d;
-    if longer > NO_NUMBER {
-        return NO_NUMBER;
-    }
-    longer
-}
-
-// The number that all bytes of `text` spell in base 10 or 16.
-fn number_in(text: &[u8], base: u64) -> u64
-    requires { ⌜ base ≤ 16 ⌝ }
-{
-    if text.len() == 0 {
-        return NO_NUMBER;
-    }
-    let mut value: u64 = 0;
-    let mut i = 0;
-    while i < text.len() {
-        value = with_digit(value, base, text[i]);
-        i += 1;
-    }
-    value
-}
-
-// A number in decimal, or in hexadecimal after 0x or 0X.
-fn number_of(text: &[u8]) -> u64 {
-    if slices::byte(text, 0) != b'0' {
-        return number_in(text, 10);
-    }
-    match slices::byte(text, 1) {
-        b'x' | b'X' => number_in(slices::tail(text, 2), 16),
-        _ => number_in(text, 10),
-    }
-}
-
 // The number that argument i spells; else `line` is said.
 fn number_argument(i: usize, line: &[u8]) -> Number {
     let mut text = io::buffer();
     let n = os::arg(i, &mut text);
     if os::errno() != 0 {
         complain(line);
-        return Number::Unread;
+        return Number::NotOne;
     }
-    let value = number_of(&text[..n]);
-    if value >= NO_NUMBER {
+    let number = numerals::read_number(&text[..n]);
+    let Number::Value(_) = number else {
         complain(line);
-        return Number::Unread;
-    }
-    Number::Value(value as u32)
+        return Number::NotOne;
+    };
+    number
 }
 
 fn list_on_board(block: &[u8], flash: &[u8]) {

@@ -12,7 +12,7 @@ use lib.Seq.{drop-cons, drop-length, getD-drop}
 use borrow.Author.Tests.{eq-eqb, ne-eqb, lt-ltb, le-ltb}
 use Rattle.notation.specs.Choice.{choose}
 use Rattle.laws.specs.Choice.{choose-yes, choose-no, and-not-left}
-use Rattle.record_numbers.specs.Numbers.{numberOf}
+use Rattle.numerals.specs.Numerals.{numberOf}
 use Rattle.record_fields.proofs.Pieces.{Passed, passed-none, passed-next, passed-here, passed-all}
 use Rattle.record_lines.specs.Lines.{same, wordOf, numbersAfter, unread, valueAt, firstUnread, faultAt, recordOf, numbered, saidBy}
 use Rattle.record_lines.specs.declared.Word.{Word}

@@ -6,9 +6,9 @@ use lib.Dec.{eqb, ltb}
 use lib.ListN.{length, getD, drop}
 use Rattle.notation.specs.Choice.{choose}
 use Rattle.notation.specs.Lists.{countBefore}
-use Rattle.record_numbers.specs.declared.Number.{Number}
-use Rattle.record_numbers.specs.declared.Number.the-variants as number
-use Rattle.record_numbers.specs.Numbers.{numberOf}
+use Rattle.numerals.specs.declared.Number.{Number}
+use Rattle.numerals.specs.declared.Number.the-variants as number
+use Rattle.numerals.specs.Numerals.{numberOf}
 use Rattle.record_fields.specs.Fields.{fields}
 use Rattle.record_lines.specs.declared.Word.{Word}
 use Rattle.record_lines.specs.declared.Word.the-variants as word

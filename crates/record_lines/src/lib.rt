@@ -4,7 +4,7 @@ ghost use Prim.Native.Nat.{_≤_};
 ghost use lib.ListN.{length};
 ghost use Rattle.record_fields.specs.Fields.{fields};
 ghost use Rattle.record_lines.specs.Lines.{same, wordOf, numbersAfter, unread, valueOf, valueAt, firstUnread, faultAt, recordOf, numbered, lineOf, faulty};
-use record_numbers::Number;
+use numerals::Number;
 
 // The first field of a line.
 pub enum Word {
@@ -121,7 +121,7 @@ fn record_of(word: Word, a: u32, b: u32, c: u32, d: u32) -> Line
 fn value_at(line: &[u8], k: usize) -> u32
     ensures { λ r. ⌜ r ≡ valueAt (fields (now (line .entry))) k ⌝ }
 {
-    value_of(record_numbers::read_number(record_fields::field(line, k)))
+    value_of(numerals::read_number(record_fields::field(line, k)))
 }
 
 // The first field after the word that is no number of 32 bits; `count`, the number of fields, where all are.
@@ -131,7 +131,7 @@ fn first_unread(line: &[u8], count: usize) -> usize
 {
     let mut k = 1;
     while k < count {
-        if is_unread(record_numbers::read_number(record_fields::field(line, k))) {
+        if is_unread(numerals::read_number(record_fields::field(line, k))) {
             return k;
         }
         k += 1;
@@ -146,10 +146,7 @@ fn read_numbered(word: Word, line: &[u8], count: usize) -> Line
 {
     let k = first_unread(line, count);
     if k < count {
-        return fault_at(
-            k,
-            record_numbers::read_number(record_fields::field(line, k)),
-        );
+        return fault_at(k, numerals::read_number(record_fields::field(line, k)));
     }
     record_of(
         word,

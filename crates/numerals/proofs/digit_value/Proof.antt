@@ -1,9 +1,9 @@
 use mathlib.Core.Path.{sym, _∙_}
-use Rattle.record_numbers.proofs.Digits.{between-low, digit-decimal, digit-capital, digit-small, digit-none}
+use Rattle.numerals.proofs.Digits.{between-low, digit-decimal, digit-capital, digit-small, digit-none}
 use native.Mathlib.Omega.{arith}
 use borrow.Author.Needs.{needs}
-use Rattle.record_numbers.proofs.digit_value.Statement.{statement}
-use Rattle.record_numbers.proofs.digit_value.Tie as tie
+use Rattle.numerals.proofs.digit_value.Statement.{statement}
+use Rattle.numerals.proofs.digit_value.Tie as tie
 
 within-requires : tie.Need-within-requires
 within-requires c κs = search needs

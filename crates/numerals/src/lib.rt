@@ -1,7 +1,7 @@
 // A number that a text spells: the public function answers for any text.
 ghost use mathlib.Core.Path.{_≡_};
 ghost use Prim.Native.Nat.{_≤_, min};
-ghost use Rattle.record_numbers.specs.Numbers.{between, digit, spelled, valueFrom, inBase, numberOf};
+ghost use Rattle.numerals.specs.Numerals.{between, digit, spelled, valueFrom, inBase, marked, numberOf};
 
 pub enum Number {
     Value(u32),
@@ -86,15 +86,25 @@ fn in_base(text: &[u8], base: u64) -> Number
     Number::TooLarge
 }
 
-// The number that all of the text spells, in decimal, or in hexadecimal after 0x.
+// The text starts with 0x or 0X.
+fn is_marked(text: &[u8]) -> bool
+    ensures { λ r. ⌜ r ≡ marked (now (text .entry)) ⌝ }
+{
+    if slices::byte(text, 0) != b'0' {
+        return false;
+    }
+    if slices::byte(text, 1) == b'x' {
+        return true;
+    }
+    slices::byte(text, 1) == b'X'
+}
+
+// The number that all of the text spells, in decimal, or in hexadecimal after 0x or 0X.
 pub fn read_number(text: &[u8]) -> Number
     ensures { λ r. ⌜ r ≡ numberOf (now (text .entry)) ⌝ }
 {
-    if slices::byte(text, 0) != b'0' {
-        return in_base(text, 10);
+    if is_marked(text) {
+        return in_base(slices::tail(text, 2), 16);
     }
-    if slices::byte(text, 1) != b'x' {
-        return in_base(text, 10);
-    }
-    in_base(slices::tail(text, 2), 16)
+    in_base(text, 10)
 }

@@ -1,11 +1,11 @@
 use Prim.Native.Nat.{_*_, _-_, _≤_}
 use native.Mathlib.Nat.{mul-le-mul}
 use lib.ListN.{length}
-use Rattle.record_numbers.proofs.Digits.{Valued, valued-none, valued-next, valued-all}
+use Rattle.numerals.proofs.Digits.{Valued, valued-none, valued-next, valued-all}
 use native.Mathlib.Omega.{arith}
 use borrow.Author.Needs.{needs}
-use Rattle.record_numbers.proofs.value.Statement.{statement}
-use Rattle.record_numbers.proofs.value.Tie as tie
+use Rattle.numerals.proofs.value.Statement.{statement}
+use Rattle.numerals.proofs.value.Tie as tie
 
 abbrev Inv-loop : tie.InvT-loop
 Inv-loop text base v₀ i₀ v i = Valued base 4294967296 text v i

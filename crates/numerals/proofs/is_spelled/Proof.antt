@@ -4,11 +4,11 @@ use lib.Dec.{leb}
 use lib.ListN.{length}
 use borrow.Author.Tests.{le-leb, lt-leb}
 use Rattle.laws.specs.Choice.{choose-yes, choose-no}
-use Rattle.record_numbers.specs.Numbers.{digit, spelled}
-use Rattle.record_numbers.proofs.Digits.{Searched, searched-none, searched-next, searched-here, searched-all}
+use Rattle.numerals.specs.Numerals.{digit, spelled}
+use Rattle.numerals.proofs.Digits.{Searched, searched-none, searched-next, searched-here, searched-all}
 use borrow.Author.Needs.{needs}
-use Rattle.record_numbers.proofs.is_spelled.Statement.{statement}
-use Rattle.record_numbers.proofs.is_spelled.Tie as tie
+use Rattle.numerals.proofs.is_spelled.Statement.{statement}
+use Rattle.numerals.proofs.is_spelled.Tie as tie
 
 abbrev Inv-loop : tie.InvT-loop
 Inv-loop text base i₀ i = Searched (λ c. leb base (digit c)) text i

@@ -14,8 +14,8 @@ use lib.Seq.{drop-cons, drop-length}
 use borrow.Author.Tests.{leb-true, lt-ltb, le-ltb, eq-eqb, ne-eqb}
 use Rattle.notation.specs.Lists.{someOf}
 use Rattle.laws.specs.Choice.{choose-yes, choose-no, and-left, and-right, and-both, and-not-left, and-not-right}
-use Rattle.record_numbers.specs.Numbers.{between, digit, spelled, valueFrom, inBase, numberOf}
-use Rattle.record_numbers.specs.declared.Number.the-variants.{Value, TooLarge, NotOne}
+use Rattle.numerals.specs.Numerals.{between, digit, spelled, valueFrom, inBase, numberOf}
+use Rattle.numerals.specs.declared.Number.the-variants.{Value, TooLarge, NotOne}
 
 -- BETWEEN
 pub between-low : (a b c : ℕ) → between a b c ≡ true → a ≤ c
@@ -126,17 +126,3 @@ module _ (b : ℕ) (t : List ℕ) where
   pub in-base-large : (v : ℕ) → spelled b t ≡ true → v ≡ min (valueFrom b 0 t) 4294967296 → 4294967296 ≤ v → TooLarge ≡ inBase b t
   unfolding inBase
   in-base-large v e f h = sym (choose-yes _ _ e ∙ choose-no _ _ (le-ltb (valueFrom b 0 t) 4294967296 (omega arith)))
-
--- NUMBER-OF: a is the text's first byte, b the second
-module _ (t : List ℕ) (a : ℕ) (e : a ≡ getD t 0 0) where
-  pub number-not-zero : a ≢ 48 → inBase 10 t ≡ numberOf t
-  unfolding numberOf
-  number-not-zero n = sym (choose-no _ _ (and-not-left _ (ne-eqb _ 48 (λ h. n (e ∙ h)))))
-
-  pub number-not-marked : (b : ℕ) → b ≡ getD t 1 0 → b ≢ 120 → inBase 10 t ≡ numberOf t
-  unfolding numberOf
-  number-not-marked b f n = sym (choose-no _ _ (and-not-right (eqb (getD t 0 0) 48) (ne-eqb _ 120 (λ h. n (f ∙ h)))))
-
-  pub number-marked : (b : ℕ) → b ≡ getD t 1 0 → a ≡ 48 → b ≡ 120 → inBase 16 (drop 2 t) ≡ numberOf t
-  unfolding numberOf
-  number-marked b f h l = sym (choose-yes _ _ (and-both (eq-eqb _ _ (sym e ∙ h)) (eq-eqb _ _ (sym f ∙ l))))

@@ -1,9 +1,9 @@
 use mathlib.Core.Path.{sym, _∙_}
 use borrow.Author.Tests.{not-true, not-false}
-use Rattle.record_numbers.proofs.Digits.{in-base-none, in-base-value, in-base-large}
+use Rattle.numerals.proofs.Digits.{in-base-none, in-base-value, in-base-large}
 use borrow.Author.Needs.{needs}
-use Rattle.record_numbers.proofs.in_base.Statement.{statement}
-use Rattle.record_numbers.proofs.in_base.Tie as tie
+use Rattle.numerals.proofs.in_base.Statement.{statement}
+use Rattle.numerals.proofs.in_base.Tie as tie
 
 is-spelled-requires : tie.Need-is-spelled-requires
 is-spelled-requires c κs = search needs

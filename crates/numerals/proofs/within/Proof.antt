@@ -1,7 +1,7 @@
 use borrow.Author.Tests.{lt-leb, le-leb}
-use Rattle.record_numbers.specs.Numbers.{between}
-use Rattle.record_numbers.proofs.within.Statement.{statement}
-use Rattle.record_numbers.proofs.within.Tie as tie
+use Rattle.numerals.specs.Numerals.{between}
+use Rattle.numerals.proofs.within.Statement.{statement}
+use Rattle.numerals.proofs.within.Tie as tie
 
 returns : tie.Need-returns
 unfolding between

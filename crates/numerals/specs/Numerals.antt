@@ -4,10 +4,10 @@ use mathlib.Core.List.{List, [], _∷_}
 use Prim.Native.Nat.{ℕ, _+_, _*_, _-_}
 use lib.Dec.{eqb, leb, ltb}
 use lib.ListN.{length, getD, drop}
-use Rattle.notation.specs.Choice.{choose}
+use Rattle.notation.specs.Choice.{choose, any}
 use Rattle.notation.specs.Lists.{someOf}
-use Rattle.record_numbers.specs.declared.Number.{Number}
-use Rattle.record_numbers.specs.declared.Number.the-variants.{Value, TooLarge, NotOne}
+use Rattle.numerals.specs.declared.Number.{Number}
+use Rattle.numerals.specs.declared.Number.the-variants.{Value, TooLarge, NotOne}
 
 -- c is one of the bytes from a to b
 unfoldable pub between : ℕ → ℕ → ℕ → Bool
@@ -36,6 +36,10 @@ inBase b t =
     let v = valueFrom b 0 t in
     choose (spelled b t) (choose (ltb v 4294967296) (Value v) TooLarge) NotOne
 
--- decimal, or hexadecimal after 0x
+-- it starts with 0x or 0X
+unfoldable pub marked : List ℕ → Bool
+marked t = eqb (getD t 0 0) 48 && any (eqb (getD t 1 0) 120 ∷ eqb (getD t 1 0) 88 ∷ [])
+
+-- hexadecimal after 0x or 0X, else decimal
 unfoldable pub numberOf : List ℕ → Number
-numberOf t = choose (eqb (getD t 0 0) 48 && eqb (getD t 1 0) 120) (inBase 16 (drop 2 t)) (inBase 10 t)
+numberOf t = choose (marked t) (inBase 16 (drop 2 t)) (inBase 10 t)
