@@ -39,10 +39,22 @@ cast-result-3 : tie.Need-cast-result-3
 cast-result-3 c = search needs
 
 returns-3 : tie.Need-returns-3
-returns-3 c = digit-small _ (sym (c .before .before .before .before .before .within .ensures) ∙ c .before .before .before .before .if1 .left) (sym (c .before .before .before .within2 .ensures) ∙ c .before .before .if2 .left) (sym (c .before .within3 .ensures) ∙ c .if3 .taken)
+returns-3 c =
+    let s₁ = c .before in
+    let s₂ = s₁ .before in
+    let s₃ = s₂ .before in
+    let s₄ = s₃ .before in
+    let s₅ = s₄ .before in
+    digit-small _ (sym (s₅ .within .ensures) ∙ s₄ .if1 .left) (sym (s₃ .within2 .ensures) ∙ s₂ .if2 .left) (sym (s₁ .within3 .ensures) ∙ c .if3 .taken)
 
 returns-4 : tie.Need-returns-4
-returns-4 c = digit-none _ (sym (c .before .before .before .before .before .within .ensures) ∙ c .before .before .before .before .if1 .left) (sym (c .before .before .before .within2 .ensures) ∙ c .before .before .if2 .left) (sym (c .before .within3 .ensures) ∙ c .if3 .left)
+returns-4 c =
+    let s₁ = c .before in
+    let s₂ = s₁ .before in
+    let s₃ = s₂ .before in
+    let s₄ = s₃ .before in
+    let s₅ = s₄ .before in
+    digit-none _ (sym (s₅ .within .ensures) ∙ s₄ .if1 .left) (sym (s₃ .within2 .ensures) ∙ s₂ .if2 .left) (sym (s₁ .within3 .ensures) ∙ c .if3 .left)
 
 pub digit-value-spec : {M : Type 1} → statement M
 digit-value-spec =

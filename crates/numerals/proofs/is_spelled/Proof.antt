@@ -27,7 +27,11 @@ digit-value-requires c κs = search needs
 
 returns : tie.Need-returns Inv-loop μ-loop
 unfolding spelled
-returns c = sym (choose-yes _ _ (searched-here _ _ _ (c .before .before .before .before .loop .inv) (c .before .before .before .loop-test .taken) (rw (← c .before .digit-value .ensures .0) (le-leb _ _ (c .if1 .taken)))))
+returns c =
+    let s₁ = c .before in
+    let s₂ = s₁ .before .before in
+    let s₃ = s₂ .before in
+    sym (choose-yes _ _ (searched-here _ _ _ (s₃ .loop .inv) (s₂ .loop-test .taken) (rw (← s₁ .digit-value .ensures .0) (le-leb _ _ (c .if1 .taken)))))
 
 add-i : tie.Need-add-i Inv-loop μ-loop
 add-i c = search needs
@@ -36,7 +40,11 @@ loop-less : tie.Need-loop-less Inv-loop μ-loop
 loop-less c = search needs
 
 loop-again : tie.Need-loop-again Inv-loop μ-loop
-loop-again c = searched-next _ _ _ (c .before .before .before .before .loop .inv) (c .before .before .before .loop-test .taken) (rw (← c .before .digit-value .ensures .0) (lt-leb _ _ (c .if1 .left)))
+loop-again c =
+    let s₁ = c .before in
+    let s₂ = s₁ .before .before in
+    let s₃ = s₂ .before in
+    searched-next _ _ _ (s₃ .loop .inv) (s₂ .loop-test .taken) (rw (← s₁ .digit-value .ensures .0) (lt-leb _ _ (c .if1 .left)))
 
 returns-2 : tie.Need-returns-2 Inv-loop μ-loop
 unfolding spelled

@@ -44,7 +44,12 @@ loop-less : tie.Need-loop-less Inv-loop μ-loop
 loop-less c = search needs
 
 loop-again : tie.Need-loop-again Inv-loop μ-loop
-loop-again c = valued-next _ _ _ _ _ (c .before .before .before .before .before .before .pre .0) (c .before .before .before .before .loop .inv) (c .before .before .before .loop-test .taken) (c .before .digit-value .ensures .0) (c .at-most .ensures)
+loop-again c =
+    let s₁ = c .before in
+    let s₂ = s₁ .before .before in
+    let s₃ = s₂ .before in
+    let s₄ = s₃ .before .before in
+    valued-next _ _ _ _ _ (s₄ .pre .0) (s₃ .loop .inv) (s₂ .loop-test .taken) (s₁ .digit-value .ensures .0) (c .at-most .ensures)
 
 returns : tie.Need-returns Inv-loop μ-loop
 returns c = valued-all _ _ _ _ (c .before .loop .inv) (c .loop-test .left)

@@ -23,7 +23,11 @@ returns-4 c = rw (ne-eqb _ _ (c .before .before .before .if1 .left), ne-eqb _ _ 
 
 returns-5 : tie.Need-returns-5
 unfolding any separator
-returns-5 c = rw (ne-eqb _ _ (c .before .before .before .if1 .left), ne-eqb _ _ (c .before .before .if2 .left), ne-eqb _ _ (c .before .if3 .left), ne-eqb _ _ (c .if4 .left)) (or-none _)
+returns-5 c =
+    let s₁ = c .before in
+    let s₂ = s₁ .before in
+    let s₃ = s₂ .before in
+    rw (ne-eqb _ _ (s₃ .if1 .left), ne-eqb _ _ (s₂ .if2 .left), ne-eqb _ _ (s₁ .if3 .left), ne-eqb _ _ (c .if4 .left)) (or-none _)
 
 pub is-separator-spec : {M : Type 1} → statement M
 is-separator-spec = tie.close (tie.spec returns returns-2 returns-3 returns-4 returns-5)

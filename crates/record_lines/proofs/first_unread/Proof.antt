@@ -25,7 +25,14 @@ is-unread-requires : tie.Need-is-unread-requires Inv-loop μ-loop
 is-unread-requires c κs = search needs
 
 returns : tie.Need-returns Inv-loop μ-loop
-returns c = all-read-not _ _ (c .before .before .before .before .before .loop .inv) (rw (← c .before .before .before .before .before .before .before .pre .0) (c .before .before .before .before .loop-test .taken)) _ (c .before .before .before .field .ensures) (sym (rw (c .before .before .read-number .ensures) at (c .before .is-unread .ensures)) ∙ c .if1 .taken)
+returns c =
+    let s₁ = c .before in
+    let s₂ = s₁ .before in
+    let s₃ = s₂ .before in
+    let s₄ = s₃ .before in
+    let s₅ = s₄ .before in
+    let s₆ = s₅ .before .before in
+    all-read-not _ _ (s₅ .loop .inv) (rw (← s₆ .pre .0) (s₄ .loop-test .taken)) _ (s₃ .field .ensures) (sym (rw (s₂ .read-number .ensures) at (s₁ .is-unread .ensures)) ∙ c .if1 .taken)
 
 add-k : tie.Need-add-k Inv-loop μ-loop
 add-k c = search needs
@@ -34,7 +41,14 @@ loop-less : tie.Need-loop-less Inv-loop μ-loop
 loop-less c = search needs
 
 loop-again : tie.Need-loop-again Inv-loop μ-loop
-loop-again c = all-read-next _ _ (c .before .before .before .before .before .loop .inv) (rw (← c .before .before .before .before .before .before .before .pre .0) (c .before .before .before .before .loop-test .taken)) _ (c .before .before .before .field .ensures) (sym (rw (c .before .before .read-number .ensures) at (c .before .is-unread .ensures)) ∙ c .if1 .left)
+loop-again c =
+    let s₁ = c .before in
+    let s₂ = s₁ .before in
+    let s₃ = s₂ .before in
+    let s₄ = s₃ .before in
+    let s₅ = s₄ .before in
+    let s₆ = s₅ .before .before in
+    all-read-next _ _ (s₅ .loop .inv) (rw (← s₆ .pre .0) (s₄ .loop-test .taken)) _ (s₃ .field .ensures) (sym (rw (s₂ .read-number .ensures) at (s₁ .is-unread .ensures)) ∙ c .if1 .left)
 
 returns-2 : tie.Need-returns-2 Inv-loop μ-loop
 returns-2 c = all-read-end _ _ (c .before .loop .inv) (rw (← c .before .before .before .pre .0) (c .loop-test .left))

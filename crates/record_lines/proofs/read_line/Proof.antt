@@ -24,7 +24,13 @@ numbers-after-requires c κs = search needs
 
 returns-2 : tie.Need-returns-2
 unfolding lineOf
-returns-2 c = said-unknown _ _ (c .before .before .before .before .before .field-count .ensures) (c .before .before .before .before .if1 .left) _ (rw (c .before .before .before .field .ensures) at (c .before .before .read-word .ensures)) _ (c .before .numbers-after .ensures .0) (c .if2 .taken)
+returns-2 c =
+    let s₁ = c .before in
+    let s₂ = s₁ .before in
+    let s₃ = s₂ .before in
+    let s₄ = s₃ .before in
+    let s₅ = s₄ .before in
+    said-unknown _ _ (s₅ .field-count .ensures) (s₄ .if1 .left) _ (rw (s₃ .field .ensures) at (s₂ .read-word .ensures)) _ (s₁ .numbers-after .ensures .0) (c .if2 .taken)
 
 add-if3 : tie.Need-add-if3
 add-if3 c = search needs
@@ -34,14 +40,29 @@ sub-t8 c = search needs
 
 returns-3 : tie.Need-returns-3
 unfolding lineOf
-returns-3 c = said-count _ _ (c .before .before .before .before .before .before .field-count .ensures) (c .before .before .before .before .before .if1 .left) _ (rw (c .before .before .before .before .field .ensures) at (c .before .before .before .read-word .ensures)) _ (c .before .before .numbers-after .ensures .0) (c .before .if2 .left) (c .if3 .taken)
+returns-3 c =
+    let s₁ = c .before in
+    let s₂ = s₁ .before in
+    let s₃ = s₂ .before in
+    let s₄ = s₃ .before in
+    let s₅ = s₄ .before in
+    let s₆ = s₅ .before in
+    said-count _ _ (s₆ .field-count .ensures) (s₅ .if1 .left) _ (rw (s₄ .field .ensures) at (s₃ .read-word .ensures)) _ (s₂ .numbers-after .ensures .0) (s₁ .if2 .left) (c .if3 .taken)
 
 read-numbered-requires : tie.Need-read-numbered-requires
 read-numbered-requires c κs = (c .before .before .before .before .before .before .field-count .ensures, omega arith)
 
 returns-4 : tie.Need-returns-4
 unfolding lineOf
-returns-4 c = c .read-numbered .ensures ∙ said-numbered _ _ (c .before .before .before .before .before .before .before .field-count .ensures) (c .before .before .before .before .before .before .if1 .left) _ (rw (c .before .before .before .before .before .field .ensures) at (c .before .before .before .before .read-word .ensures)) _ (c .before .before .before .numbers-after .ensures .0) (c .before .before .if2 .left) (c .before .if3 .left)
+returns-4 c =
+    let s₁ = c .before in
+    let s₂ = s₁ .before in
+    let s₃ = s₂ .before in
+    let s₄ = s₃ .before in
+    let s₅ = s₄ .before in
+    let s₆ = s₅ .before in
+    let s₇ = s₆ .before in
+    c .read-numbered .ensures ∙ said-numbered _ _ (s₇ .field-count .ensures) (s₆ .if1 .left) _ (rw (s₅ .field .ensures) at (s₄ .read-word .ensures)) _ (s₃ .numbers-after .ensures .0) (s₂ .if2 .left) (s₁ .if3 .left)
 
 pub read-line-spec : {M : Type 1} → statement M
 read-line-spec =

@@ -17,7 +17,13 @@ fault-at-requires : tie.Need-fault-at-requires
 fault-at-requires c κs = search needs
 
 returns : tie.Need-returns
-returns c = c .fault-at .ensures ∙ rw (c .before .read-number .ensures, c .before .before .field .ensures) (numbered-fault _ _ _ (c .before .before .before .before .first-unread .ensures) (rw (← c .before .before .before .before .before .before .pre .0) (c .before .before .before .if1 .taken)))
+returns c =
+    let s₁ = c .before in
+    let s₂ = s₁ .before in
+    let s₃ = s₂ .before in
+    let s₄ = s₃ .before in
+    let s₅ = s₄ .before .before in
+    c .fault-at .ensures ∙ rw (s₁ .read-number .ensures, s₂ .field .ensures) (numbered-fault _ _ _ (s₄ .first-unread .ensures) (rw (← s₅ .pre .0) (s₃ .if1 .taken)))
 
 value-at-requires : tie.Need-value-at-requires
 value-at-requires c κs = search needs
@@ -35,7 +41,15 @@ record-of-requires : tie.Need-record-of-requires
 record-of-requires c κs = search needs
 
 returns-2 : tie.Need-returns-2
-returns-2 c = c .record-of .ensures ∙ rw (c .before .value-at4 .ensures, c .before .before .value-at3 .ensures, c .before .before .before .value-at2 .ensures, c .before .before .before .before .value-at .ensures) (numbered-record _ _ _ (c .before .before .before .before .before .before .first-unread .ensures) (rw (← c .before .before .before .before .before .before .before .before .pre .0) (c .before .before .before .before .before .if1 .left)))
+returns-2 c =
+    let s₁ = c .before in
+    let s₂ = s₁ .before in
+    let s₃ = s₂ .before in
+    let s₄ = s₃ .before in
+    let s₅ = s₄ .before in
+    let s₆ = s₅ .before in
+    let s₇ = s₆ .before .before in
+    c .record-of .ensures ∙ rw (s₁ .value-at4 .ensures, s₂ .value-at3 .ensures, s₃ .value-at2 .ensures, s₄ .value-at .ensures) (numbered-record _ _ _ (s₆ .first-unread .ensures) (rw (← s₇ .pre .0) (s₅ .if1 .left)))
 
 pub read-numbered-spec : {M : Type 1} → statement M
 read-numbered-spec =

@@ -23,7 +23,11 @@ same-requires-2 c κs = search needs
 
 returns-2 : tie.Need-returns-2
 unfolding wordOf
-returns-2 c = sym (choose-no _ _ (sym (c .before .before .before .before .same .ensures) ∙ c .before .before .before .if1 .left) ∙ choose-yes _ _ (sym (c .before .same2 .ensures) ∙ c .if2 .taken))
+returns-2 c =
+    let s₁ = c .before in
+    let s₂ = s₁ .before .before in
+    let s₃ = s₂ .before in
+    sym (choose-no _ _ (sym (s₃ .same .ensures) ∙ s₂ .if1 .left) ∙ choose-yes _ _ (sym (s₁ .same2 .ensures) ∙ c .if2 .taken))
 
 slice-aggregate-same-3 : tie.Need-slice-aggregate-same-3
 slice-aggregate-same-3 c = search needs
@@ -33,11 +37,23 @@ same-requires-3 c κs = search needs
 
 returns-3 : tie.Need-returns-3
 unfolding wordOf
-returns-3 c = sym (choose-no _ _ (sym (c .before .before .before .before .before .before .before .same .ensures) ∙ c .before .before .before .before .before .before .if1 .left) ∙ choose-no _ _ (sym (c .before .before .before .before .same2 .ensures) ∙ c .before .before .before .if2 .left) ∙ choose-yes _ _ (sym (c .before .same3 .ensures) ∙ c .if3 .taken))
+returns-3 c =
+    let s₁ = c .before in
+    let s₂ = s₁ .before .before in
+    let s₃ = s₂ .before in
+    let s₄ = s₃ .before .before in
+    let s₅ = s₄ .before in
+    sym (choose-no _ _ (sym (s₅ .same .ensures) ∙ s₄ .if1 .left) ∙ choose-no _ _ (sym (s₃ .same2 .ensures) ∙ s₂ .if2 .left) ∙ choose-yes _ _ (sym (s₁ .same3 .ensures) ∙ c .if3 .taken))
 
 returns-4 : tie.Need-returns-4
 unfolding wordOf
-returns-4 c = sym (choose-no _ _ (sym (c .before .before .before .before .before .before .before .same .ensures) ∙ c .before .before .before .before .before .before .if1 .left) ∙ choose-no _ _ (sym (c .before .before .before .before .same2 .ensures) ∙ c .before .before .before .if2 .left) ∙ choose-no _ _ (sym (c .before .same3 .ensures) ∙ c .if3 .left))
+returns-4 c =
+    let s₁ = c .before in
+    let s₂ = s₁ .before .before in
+    let s₃ = s₂ .before in
+    let s₄ = s₃ .before .before in
+    let s₅ = s₄ .before in
+    sym (choose-no _ _ (sym (s₅ .same .ensures) ∙ s₄ .if1 .left) ∙ choose-no _ _ (sym (s₃ .same2 .ensures) ∙ s₂ .if2 .left) ∙ choose-no _ _ (sym (s₁ .same3 .ensures) ∙ c .if3 .left))
 
 pub read-word-spec : {M : Type 1} → statement M
 read-word-spec =

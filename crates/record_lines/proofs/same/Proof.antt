@@ -24,7 +24,12 @@ byte-requires : tie.Need-byte-requires Inv-loop μ-loop
 byte-requires c κs = search needs
 
 returns-2 : tie.Need-returns-2 Inv-loop μ-loop
-returns-2 c = matched-not _ _ _ (c .before .before .before .before .loop .inv) (c .before .before .before .loop-test .taken) (c .before .before .before .before .before .if1 .left) (rw (c .before .byte .ensures) at (c .if2 .taken))
+returns-2 c =
+    let s₁ = c .before in
+    let s₂ = s₁ .before .before in
+    let s₃ = s₂ .before in
+    let s₄ = s₃ .before in
+    matched-not _ _ _ (s₃ .loop .inv) (s₂ .loop-test .taken) (s₄ .if1 .left) (rw (s₁ .byte .ensures) at (c .if2 .taken))
 
 add-i : tie.Need-add-i Inv-loop μ-loop
 add-i c = search needs
@@ -33,7 +38,12 @@ loop-less : tie.Need-loop-less Inv-loop μ-loop
 loop-less c = search needs
 
 loop-again : tie.Need-loop-again Inv-loop μ-loop
-loop-again c = matched-next _ _ _ (c .before .before .before .before .loop .inv) (c .before .before .before .loop-test .taken) (c .before .before .before .before .before .if1 .left) (rw (c .before .byte .ensures) at (c .if2 .left))
+loop-again c =
+    let s₁ = c .before in
+    let s₂ = s₁ .before .before in
+    let s₃ = s₂ .before in
+    let s₄ = s₃ .before in
+    matched-next _ _ _ (s₃ .loop .inv) (s₂ .loop-test .taken) (s₄ .if1 .left) (rw (s₁ .byte .ensures) at (c .if2 .left))
 
 returns-3 : tie.Need-returns-3 Inv-loop μ-loop
 returns-3 c = matched-all _ _ _ (c .before .loop .inv) (c .before .before .if1 .left) (c .loop-test .left)

@@ -23,7 +23,13 @@ returns-3 : tie.Need-returns-3
 returns-3 c = (mark-not-third _ 0 0 _ (c .before .byte3 .ensures) (c .if3 .taken), omega arith)
 
 returns-4 : tie.Need-returns-4
-returns-4 c = mark-there _ _ _ _ (c .before .before .before .before .before .byte .ensures) (c .before .before .before .before .if1 .left) (c .before .before .before .byte2 .ensures) (c .before .before .if2 .left) (c .before .byte3 .ensures) (c .if3 .left)
+returns-4 c =
+    let s₁ = c .before in
+    let s₂ = s₁ .before in
+    let s₃ = s₂ .before in
+    let s₄ = s₃ .before in
+    let s₅ = s₄ .before in
+    mark-there _ _ _ _ (s₅ .byte .ensures) (s₄ .if1 .left) (s₃ .byte2 .ensures) (s₂ .if2 .left) (s₁ .byte3 .ensures) (c .if3 .left)
 
 pub mark-length-spec : {M : Type 1} → statement M
 mark-length-spec =

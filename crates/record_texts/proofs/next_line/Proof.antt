@@ -24,7 +24,10 @@ returns c = omega (arith, end-inside _ _ _ _ (c .before .before .before .before 
 
 returns-2 : tie.Need-returns-2
 unfolding lineFeed
-returns-2 c = omega (arith, end-inside _ _ _ _ (c .before .before .before .before .pre) (c .before .before .tail .ensures) (c .before .before2 .ensures) .0, end-inside _ _ _ _ (c .before .before .before .before .pre) (c .before .before .tail .ensures) (c .before .before2 .ensures) .1)
+returns-2 c =
+    let s₁ = c .before .before in
+    let s₂ = s₁ .before .before in
+    omega (arith, end-inside _ _ _ _ (s₂ .pre) (s₁ .tail .ensures) (c .before .before2 .ensures) .0, end-inside _ _ _ _ (s₂ .pre) (s₁ .tail .ensures) (c .before .before2 .ensures) .1)
 
 pub next-line-spec : {M : Type 1} → statement M
 next-line-spec =

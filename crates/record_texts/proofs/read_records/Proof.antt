@@ -43,7 +43,13 @@ same-length-3 c = appended-length (c .before .before .before .before .before .be
 
 returns : tie.Need-returns Inv-loop μ-loop
 unfolding lineFeed
-returns c = reading-fault _ _ _ _ (c .before .before .before .before .before .before .loop .inv) (c .before .before .before .before .before .loop-test .taken) _ (rw (c .before .before .before .before .tail .ensures) at (rw (c .before .before .before .before2 .ensures) at (c .before .before .read-line .ensures))) (sym (c .before .is-faulty .ensures) ∙ c .if1 .taken)
+returns c =
+    let s₁ = c .before in
+    let s₂ = s₁ .before in
+    let s₃ = s₂ .before .before in
+    let s₄ = s₃ .before in
+    let s₅ = s₄ .before in
+    reading-fault _ _ _ _ (s₅ .loop .inv) (s₄ .loop-test .taken) _ (rw (s₃ .tail .ensures) at (rw (s₂ .before .before2 .ensures) at (s₂ .read-line .ensures))) (sym (s₁ .is-faulty .ensures) ∙ c .if1 .taken)
 
 put-process-requires : tie.Need-put-process-requires Inv-loop μ-loop
 put-process-requires c κs = search needs
@@ -65,7 +71,17 @@ loop-less c = search needs
 
 loop-again : tie.Need-loop-again Inv-loop μ-loop
 unfolding lineFeed
-loop-again c = reading-next _ _ _ _ (c .before .before .before .before .before .before .before .before .before .before .before .before .before .before .before .before .before .before .before .loop .inv) (c .before .before .before .before .before .before .before .before .before .before .before .before .before .before .before .before .before .before .loop-test .taken) _ (rw (c .before .before .before .before .before .before .before .before .before .before .before .before .before .before .before .before .before .tail .ensures) at (rw (c .before .before .before .before .before .before .before .before .before .before .before .before .before .before .before .before .before2 .ensures) at (c .before .before .before .before .before .before .before .before .before .before .before .before .before .before .before .read-line .ensures))) (sym (c .before .before .before .before .before .before .before .before .before .before .before .before .before .before .is-faulty .ensures) ∙ c .before .before .before .before .before .before .before .before .before .before .before .before .before .if1 .left) (c .before .before .before .before .before .before .before .before .before .before .before .put-process .ensures) (c .before .before .before .before .before .before .before .put-section .ensures) (c .before .before .before .put-region .ensures) _ (c .next-line .ensures)
+loop-again c =
+    let s₁ = c .before .before .before in
+    let s₂ = s₁ .before .before .before .before in
+    let s₃ = s₂ .before .before .before .before in
+    let s₄ = s₃ .before .before in
+    let s₅ = s₄ .before in
+    let s₆ = s₅ .before in
+    let s₇ = s₆ .before .before in
+    let s₈ = s₇ .before in
+    let s₉ = s₈ .before in
+    reading-next _ _ _ _ (s₉ .loop .inv) (s₈ .loop-test .taken) _ (rw (s₇ .tail .ensures) at (rw (s₆ .before .before2 .ensures) at (s₆ .read-line .ensures))) (sym (s₅ .is-faulty .ensures) ∙ s₄ .if1 .left) (s₃ .put-process .ensures) (s₂ .put-section .ensures) (s₁ .put-region .ensures) _ (c .next-line .ensures)
 
 same-length-4 : tie.Need-same-length-4 Inv-loop μ-loop
 same-length-4 c = appended-length (c .before .loop .inv .processes)

@@ -14,11 +14,22 @@ put-ending-requires : tie.Need-put-ending-requires
 put-ending-requires c κs = search needs
 
 same-length : tie.Need-same-length
-same-length c = appended-length (appended-then (c .before .before .before .before .before .before .before .before .before .before .put-decimal .ensures) (appended-then (c .before .before .before .before .before .before .put .ensures) (c .before .before .put-ending .ensures)))
+same-length c =
+    let s₁ = c .before .before in
+    let s₂ = s₁ .before .before .before .before in
+    let s₃ = s₂ .before .before .before .before in
+    appended-length
+    (appended-then (s₃ .put-decimal .ensures)
+    (appended-then (s₂ .put .ensures) (s₁ .put-ending .ensures)))
 
 returns : tie.Need-returns
 unfolding counted
-returns c = appended-then (c .before .before .before .before .before .before .before .before .before .before .put-decimal .ensures) (appended-then (c .before .before .before .before .before .before .put .ensures) (c .before .before .put-ending .ensures))
+returns c =
+    let s₁ = c .before .before in
+    let s₂ = s₁ .before .before .before .before in
+    let s₃ = s₂ .before .before .before .before in
+    appended-then (s₃ .put-decimal .ensures)
+    (appended-then (s₂ .put .ensures) (s₁ .put-ending .ensures))
 
 pub put-counted-spec : {M : Type 1} → statement M
 put-counted-spec =

@@ -13,10 +13,19 @@ put-shown-requires : tie.Need-put-shown-requires
 put-shown-requires c κs = search needs
 
 same-length : tie.Need-same-length
-same-length c = appended-length (appended-then (c .before .before .before .before .before .before .before .put .ensures) (rw (c .before .before .before .field .ensures) at (c .before .before .put-shown .ensures)))
+same-length c =
+    let s₁ = c .before .before in
+    let s₂ = s₁ .before in
+    let s₃ = s₂ .before .before .before .before in
+    appended-length
+    (appended-then (s₃ .put .ensures) (rw (s₂ .field .ensures) at (s₁ .put-shown .ensures)))
 
 returns : tie.Need-returns
-returns c = appended-then (c .before .before .before .before .before .before .before .put .ensures) (rw (c .before .before .before .field .ensures) at (c .before .before .put-shown .ensures))
+returns c =
+    let s₁ = c .before .before in
+    let s₂ = s₁ .before in
+    let s₃ = s₂ .before .before .before .before in
+    appended-then (s₃ .put .ensures) (rw (s₂ .field .ensures) at (s₁ .put-shown .ensures))
 
 pub put-field-spec : {M : Type 1} → statement M
 put-field-spec =

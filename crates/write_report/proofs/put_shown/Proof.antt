@@ -20,7 +20,12 @@ same-length c = appended-length (appended-then (c .before .before .before .befor
 
 returns : tie.Need-returns
 unfolding shown
-returns c = rw (choose-yes _ _ (lt-ltb _ _ (c .before .before .before .before .before .if1 .taken))) (appended-then (c .before .before .before .before .before .before .before .before .put-shown-bytes .ensures) (c .before .before .put .ensures))
+returns c =
+    let s₁ = c .before .before in
+    let s₂ = s₁ .before .before .before in
+    let s₃ = s₂ .before .before .before in
+    rw (choose-yes _ _ (lt-ltb _ _ (s₂ .if1 .taken)))
+    (appended-then (s₃ .put-shown-bytes .ensures) (s₁ .put .ensures))
 
 slice-aggregate-put-2 : tie.Need-slice-aggregate-put-2
 slice-aggregate-put-2 c = search needs
@@ -33,7 +38,12 @@ same-length-2 c = appended-length (appended-then (c .before .before .before .bef
 
 returns-2 : tie.Need-returns-2
 unfolding shown
-returns-2 c = rw (choose-no _ _ (le-ltb _ _ (c .before .before .before .before .before .if1 .left))) (appended-then (c .before .before .before .before .before .before .before .before .put-shown-bytes .ensures) (c .before .before .put2 .ensures))
+returns-2 c =
+    let s₁ = c .before .before in
+    let s₂ = s₁ .before .before .before in
+    let s₃ = s₂ .before .before .before in
+    rw (choose-no _ _ (le-ltb _ _ (s₂ .if1 .left)))
+    (appended-then (s₃ .put-shown-bytes .ensures) (s₁ .put2 .ensures))
 
 pub put-shown-spec : {M : Type 1} → statement M
 put-shown-spec =

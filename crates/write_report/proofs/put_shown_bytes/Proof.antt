@@ -45,7 +45,13 @@ loop-less : tie.Need-loop-less Inv-loop μ-loop
 loop-less c = search needs
 
 loop-again : tie.Need-loop-again Inv-loop μ-loop
-loop-again c = (omega arith, shown-next (c .before .before .before .before .before .before .before .before .before .before .before .before .before .args .field .now) _ _ (c .before .before .before .before .before .before .before .before .loop .inv .1) (c .before .before .before .before .before .shown-byte .ensures ∙ ap shownByte (c .before .before .before .before .before .before .byte .ensures)) (c .before .before .put .ensures))
+loop-again c =
+    let s₁ = c .before .before in
+    let s₂ = s₁ .before .before .before in
+    let s₃ = s₂ .before in
+    let s₄ = s₃ .before .before in
+    let s₅ = s₄ .before .before .before .before .before in
+    (omega arith, shown-next (s₅ .args .field .now) _ _ (s₄ .loop .inv .1) (s₂ .shown-byte .ensures ∙ ap shownByte (s₃ .byte .ensures)) (s₁ .put .ensures))
 
 same-length : tie.Need-same-length Inv-loop μ-loop
 same-length c = appended-length (c .before .loop .inv .1)
