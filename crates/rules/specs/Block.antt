@@ -75,6 +75,7 @@ sectionsOf b q = word b (processAt q + 8)
 unfoldable pub kind : List ℕ → ℕ → ℕ
 kind b q = word b (processAt q + 12)
 
+-- the four together
 unfoldable pub processRecord : List ℕ → ℕ → Process
 processRecord b q = record { «entry_point» = entryPoint b q; «first_section» = firstSection b q; sections = sectionsOf b q; kind = kind b q }
 

@@ -26,13 +26,10 @@ is-unread-requires c κs = search needs
 
 returns : tie.Need-returns Inv-loop μ-loop
 returns c =
-    let s₁ = c .before in
-    let s₂ = s₁ .before in
-    let s₃ = s₂ .before in
-    let s₄ = s₃ .before in
-    let s₅ = s₄ .before in
-    let s₆ = s₅ .before .before in
-    all-read-not _ _ (s₅ .loop .inv) (rw (← s₆ .pre .0) (s₄ .loop-test .taken)) _ (s₃ .field .ensures) (sym (rw (s₂ .read-number .ensures) at (s₁ .is-unread .ensures)) ∙ c .if1 .taken)
+    let f = c .before .before .before in
+    let l = f .before .before in
+    all-read-not _ _ (l .loop .inv) (rw (← l .before .before .pre .0) (f .before .loop-test .taken)) _ (f .field .ensures)
+    (sym (rw (c .before .before .read-number .ensures) at (c .before .is-unread .ensures)) ∙ c .if1 .taken)
 
 add-k : tie.Need-add-k Inv-loop μ-loop
 add-k c = search needs
@@ -42,13 +39,10 @@ loop-less c = search needs
 
 loop-again : tie.Need-loop-again Inv-loop μ-loop
 loop-again c =
-    let s₁ = c .before in
-    let s₂ = s₁ .before in
-    let s₃ = s₂ .before in
-    let s₄ = s₃ .before in
-    let s₅ = s₄ .before in
-    let s₆ = s₅ .before .before in
-    all-read-next _ _ (s₅ .loop .inv) (rw (← s₆ .pre .0) (s₄ .loop-test .taken)) _ (s₃ .field .ensures) (sym (rw (s₂ .read-number .ensures) at (s₁ .is-unread .ensures)) ∙ c .if1 .left)
+    let f = c .before .before .before in
+    let l = f .before .before in
+    all-read-next _ _ (l .loop .inv) (rw (← l .before .before .pre .0) (f .before .loop-test .taken)) _ (f .field .ensures)
+    (sym (rw (c .before .before .read-number .ensures) at (c .before .is-unread .ensures)) ∙ c .if1 .left)
 
 returns-2 : tie.Need-returns-2 Inv-loop μ-loop
 returns-2 c = all-read-end _ _ (c .before .loop .inv) (rw (← c .before .before .before .pre .0) (c .loop-test .left))

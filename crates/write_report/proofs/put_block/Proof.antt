@@ -29,17 +29,7 @@ put-requires-3 : tie.Need-put-requires-3
 put-requires-3 c κs = search needs
 
 same-length : tie.Need-same-length
-same-length c =
-    let s₁ = c .before .before in
-    let s₂ = s₁ .before .before .before .before .before in
-    let s₃ = s₂ .before .before .before .before in
-    let s₄ = s₃ .before .before .before .before .before in
-    let s₅ = s₄ .before .before .before .before in
-    appended-length
-    (appended-then (s₅ .put .ensures)
-    (appended-then (s₄ .put-decimal .ensures)
-    (appended-then (s₃ .put2 .ensures)
-    (appended-then (s₂ .put-counts .ensures) (s₁ .put3 .ensures)))))
+same-length c = search needs
 
 returns : tie.Need-returns
 unfolding blockLine

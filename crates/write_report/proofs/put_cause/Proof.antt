@@ -73,7 +73,7 @@ put-requires-4 : tie.Need-put-requires-4
 put-requires-4 c κs = search needs
 
 same-length : tie.Need-same-length
-same-length c = appended-length (c .before .before .put-field .ensures)
+same-length c = search needs
 
 returns : tie.Need-returns
 returns c = rw (c .before .before .before .before .before .enum-told .given .1) (c .before .before .put-field .ensures)

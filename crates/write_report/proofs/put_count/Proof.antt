@@ -37,22 +37,7 @@ put-decimal-requires-2 : tie.Need-put-decimal-requires-2
 put-decimal-requires-2 c κs = search needs
 
 same-length : tie.Need-same-length
-same-length c =
-    let s₁ = c .before .before in
-    let s₂ = s₁ .before .before .before .before in
-    let s₃ = s₂ .before .before .before .before .before in
-    let s₄ = s₃ .before .before .before .before in
-    let s₅ = s₄ .before .before .before .before .before in
-    let s₆ = s₅ .before .before .before .before in
-    let s₇ = s₆ .before .before .before .before .before in
-    let s₈ = s₇ .before in
-    appended-length
-    (appended-then (rw (s₈ .field .ensures) at (s₇ .put-shown .ensures))
-    (appended-then (s₆ .put .ensures)
-    (appended-then (s₅ .put-decimal .ensures)
-    (appended-then (s₄ .put2 .ensures)
-    (appended-then (s₃ .put-verb .ensures)
-    (appended-then (s₂ .put3 .ensures) (s₁ .put-decimal2 .ensures)))))))
+same-length c = search needs
 
 returns : tie.Need-returns
 returns c =

@@ -14,13 +14,7 @@ put-ending-requires : tie.Need-put-ending-requires
 put-ending-requires c κs = search needs
 
 same-length : tie.Need-same-length
-same-length c =
-    let s₁ = c .before .before in
-    let s₂ = s₁ .before .before .before .before in
-    let s₃ = s₂ .before .before .before .before in
-    appended-length
-    (appended-then (s₃ .put-decimal .ensures)
-    (appended-then (s₂ .put .ensures) (s₁ .put-ending .ensures)))
+same-length c = search needs
 
 returns : tie.Need-returns
 unfolding counted

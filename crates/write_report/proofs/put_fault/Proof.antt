@@ -32,18 +32,7 @@ put-requires-3 : tie.Need-put-requires-3
 put-requires-3 c κs = search needs
 
 same-length : tie.Need-same-length
-same-length c =
-    let s₁ = c .before .before in
-    let s₂ = s₁ .before .before .before .before .before in
-    let s₃ = s₂ .before in
-    let s₄ = s₃ .before .before .before .before in
-    let s₅ = s₄ .before .before .before .before .before in
-    let s₆ = s₅ .before .before .before .before in
-    appended-length
-    (appended-then (s₆ .put .ensures)
-    (appended-then (s₅ .put-decimal .ensures)
-    (appended-then (s₄ .put2 .ensures)
-    (appended-then (rw (s₃ .read-line .ensures) at (s₂ .put-cause .ensures)) (s₁ .put3 .ensures)))))
+same-length c = search needs
 
 returns : tie.Need-returns
 unfolding faultLine

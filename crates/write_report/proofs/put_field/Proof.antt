@@ -13,12 +13,7 @@ put-shown-requires : tie.Need-put-shown-requires
 put-shown-requires c κs = search needs
 
 same-length : tie.Need-same-length
-same-length c =
-    let s₁ = c .before .before in
-    let s₂ = s₁ .before in
-    let s₃ = s₂ .before .before .before .before in
-    appended-length
-    (appended-then (s₃ .put .ensures) (rw (s₂ .field .ensures) at (s₁ .put-shown .ensures)))
+same-length c = search needs
 
 returns : tie.Need-returns
 returns c =

@@ -16,7 +16,7 @@ put-requires : tie.Need-put-requires
 put-requires c κs = search needs
 
 same-length : tie.Need-same-length
-same-length c = appended-length (appended-then (c .before .before .before .before .before .before .before .before .put-shown-bytes .ensures) (c .before .before .put .ensures))
+same-length c = search needs
 
 returns : tie.Need-returns
 unfolding shown
