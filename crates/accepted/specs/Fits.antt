@@ -13,16 +13,19 @@ use Rattle.rules.specs.Order.{pagesNeeded}
 use Rattle.rules.specs.Refusals.{verdict, ramUnfit, outside, countsOutside, countsOutOfBounds, ramTooSmall}
 use Rattle.laws.specs.Choice.{any-none}
 use Rattle.accepted.specs.NoCause.{NoCause, no-cause}
+use Rattle.accepted.specs.Sections.{Rising, rising}
 
 -- an area is whole pages
 pub record Whole (a : Area) : Type 0 where
   pub start-whole : 4096 * (a .start / 4096) ≡ a .start
   pub length-whole : 4096 * (a .length / 4096) ≡ a .length
 
--- RAM has these pages, ends within 32 bits, and has the pages that the block needs; the block has 1 to 16 processes
+-- RAM has these pages, ends within 32 bits, and has the pages that the block needs; the block has 1 to 16 processes, and the sections of
+-- each rise
 pub record Fits (b : List ℕ) (ram : PageRange) : Type 0 where
   pub some-process : 1 ≤ processCount b
   pub few-processes : processCount b ≤ 16
+  pub sections-rise : Rising b
   pub few-pages : ram .pages ≤ 4096
   pub end : ram .base + ram .pages ≤ 0x10_0000
   pub enough : pagesNeeded b (ram .pages) ≤ ram .pages
@@ -42,6 +45,7 @@ module _ (x : Image) (ram : Area) (ok : NoCause x ram) where
       record {
         some-process = ltb-false _ _ (any-none _ (any-none _ (ok .counts-in-bounds) 0) 0);
         few-processes = ltb-false _ _ (any-none _ (any-none _ (ok .counts-in-bounds) 0) 1);
+        sections-rise = rising x ram ok;
         few-pages = ltb-false _ _ (any-none _ (ok .ram-fit) 1);
         end = omega arith;
         enough = ltb-false _ _ (ok .room);

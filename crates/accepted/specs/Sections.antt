@@ -17,10 +17,10 @@ use Rattle.notation.specs.Choice.{choose}
 use Rattle.notation.specs.Lists.{findLast}
 use Rattle.types.specs.declared.Area.{Area}
 use Rattle.rules.specs.Lent.{Image}
-use Rattle.rules.specs.Block.{stackFirst, processCount, sectionCount, processRecord, sectionsOf, firstSection, sectionRecord, address, size, flashOffset, noCopy, writable, executable, sectionEnd, firstPage, lastPage}
+use Rattle.rules.specs.Block.{stackPages, stackFirst, processCount, sectionCount, processRecord, sectionsOf, firstSection, sectionRecord, address, size, flashOffset, noCopy, writable, executable, sectionEnd, firstPage, lastPage}
 use Rattle.rules.specs.Refusals.{sectionsBefore, recordUnfit, processUnfit, sectionUnfit, hasSection, ownerOf, rangeFirst, rangeLast, sectionMisplaced, sectionPastFlash}
 use Rattle.rules.specs.Space.{hasPage, sectionMapping, sectionAtPage}
-use Rattle.laws.specs.Choice.{false-not-true, choose-lt, and-both, and-left, and-right, and-rest, any-none}
+use Rattle.laws.specs.Choice.{false-not-true, by-test, choose-yes, choose-lt, and-both, and-left, and-right, and-rest, any-none}
 use Rattle.laws.specs.Lists.{by-find-last}
 use Rattle.laws.specs.Counts.{sum-none, sum-le, sum-next}
 use Rattle.accepted.specs.NoCause.{NoCause}
@@ -52,6 +52,18 @@ sections-before-le b i k h = sum-le i k _ h
 range-in-space : (b : List ℕ) (q : ℕ) → rangeLast b q < 0xFFFF_FFFF
 unfolding rangeLast stackFirst
 range-in-space b q = choose-lt (eqb q 1) _ _ 0xFFFF_FFFF (omega arith) (omega arith)
+
+-- the root slot for which process q has a leaf table whatever its sections: the kernel's 1,023, a user's 511
+unfoldable pub ownSlot : ℕ → ℕ
+ownSlot q = choose (eqb q 1) 1023 511
+
+-- RISING: no section of a process ends below its start, each starts on a higher page than those before it end on, and none lies in a root
+-- slot above its process's own; the kernel's lie in no other
+pub record Rising (b : List ℕ) : Type 0 where
+  pub ends : (q j : ℕ) → 1 ≤ q → q ≤ processCount b → j < sectionsOf b q → firstPage b (sectionRecord b q j) ≤ lastPage b (sectionRecord b q j)
+  pub rise : (q j k : ℕ) → 1 ≤ q → q ≤ processCount b → j < k → k < sectionsOf b q → lastPage b (sectionRecord b q j) < firstPage b (sectionRecord b q k)
+  pub up-to : (q j : ℕ) → 1 ≤ q → q ≤ processCount b → j < sectionsOf b q → lastPage b (sectionRecord b q j) / 1024 ≤ ownSlot q
+  pub kernel-from : (q j : ℕ) → q ≡ 1 → q ≤ processCount b → j < sectionsOf b q → 1023 ≤ firstPage b (sectionRecord b q j) / 1024
 
 module _ (x : Image) (ram : Area) (ok : NoCause x ram) where
   abbrev b : List ℕ
@@ -195,6 +207,24 @@ module _ (x : Image) (ram : Area) (ok : NoCause x ram) where
     | yes e ↦ rw e (next-above q k lo hi l)
     | no e ↦ omega (arith, above q j k lo hi (omega arith) (omega arith), first-le-last q k lo hi (omega arith), next-above q k lo hi l)
   ]
+
+  kernel-range-first : (q : ℕ) → q ≡ 1 → rangeFirst q ≡ 0xFFC0_0000
+  unfolding rangeFirst
+  kernel-range-first q e = choose-yes _ _ (eq-eqb q 1 e)
+
+  range-up-to : (q : ℕ) → rangeLast b q / 0x40_0000 ≤ ownSlot q
+  unfolding rangeLast stackFirst ownSlot
+  range-up-to q = by-test (λ c. choose c 0xFFEF_FFFF (4096 * (0x80000 - stackPages b q) - 1) / 0x40_0000 ≤ choose c 1023 511) (eqb q 1)
+      (λ _. unfold choose in omega arith) (λ _. unfold choose in omega arith)
+
+  pub rising : Rising b
+  unfolding firstPage lastPage
+  rising = record {
+    ends = first-le-last;
+    rise = above;
+    up-to = λ q j lo hi h. omega (arith, section-to q j lo hi h, range-up-to q);
+    kernel-from = λ q j e hi h. omega (arith, section-from q j (omega arith) hi h, kernel-range-first q e);
+  }
 
   -- a virtual page of a section is a page of no other section of the process
   one-section : (q j k v : ℕ) → 1 ≤ q → q ≤ processCount b → j < sectionsOf b q → k < sectionsOf b q

@@ -1,9 +1,9 @@
 -- Laws of the leaf tables: the places of what is mapped, and one mapping written over another.
-use mathlib.Core.Path.{_≡_, refl, sym, _∙_}
+use mathlib.Core.Path.{_≡_, refl, sym, ap, _∙_}
 use mathlib.Core.Bool.{Bool, true, false, _&&_}
 use mathlib.Core.List.{List}
-use mathlib.Core.Option.{some}
-use Prim.Native.Nat.{ℕ, _+_, _-_, _*_, _/_, _%_, _≤_, _<_}
+use mathlib.Core.Option.{none, some}
+use Prim.Native.Nat.{ℕ, zero, suc, _+_, _-_, _*_, _/_, _%_, _≤_, _<_}
 use native.Mathlib.Nat.{mod-eq-of-lt}
 use native.Mathlib.Decide.{decLt, ℕ-discrete}
 use native.Mathlib.Omega.{arith}
@@ -13,8 +13,8 @@ use borrow.Author.Tests.{eq-eqb, ne-eqb, eqb-true, leb-true, ltb-true, le-leb, l
 use Rattle.notation.specs.Choice.{choose}
 use Rattle.notation.specs.Lists.{tab, findLast}
 use Rattle.laws.specs.Numbers.{leb-one}
-use Rattle.laws.specs.Choice.{choose-same, choose-yes, choose-no, choose-map, and-left, and-right}
-use Rattle.laws.specs.Lists.{tab-length, tab-get, tab-same, find-last-none, find-last-next}
+use Rattle.laws.specs.Choice.{false-not-true, choose-same, choose-yes, choose-no, choose-map, and-left, and-right, and-not-left, and-not-right}
+use Rattle.laws.specs.Lists.{tab-length, tab-get, tab-same, find-last-next, by-find-last}
 use Rattle.types.specs.declared.PageRange.{PageRange}
 use Rattle.types.specs.declared.Rights.{Rights}
 use Rattle.block_records.specs.Read.{IsSection}
@@ -26,20 +26,18 @@ use Rattle.rules.specs.Entries.{absentEntry, reservedEntry, pageEntry}
 use Rattle.rules.specs.Tables.{entryFor, leafEntry}
 use Rattle.laws.specs.Counts.{sum-le}
 use Rattle.rules.specs.Load.{physPage}
-use Rattle.order_laws.specs.Places.{At, pagesBefore, processPages, userPages, sectionPlace, trackerPlace, user-pages-next, pages-before-none, pages-before-next, place-section, place-tracker, place-process-list, place-block-copy, ram-page-at}
+use Rattle.order_laws.specs.Places.{At, pagesBefore, processPages, userPages, sectionPlace, trackerPlace, user-pages-none, user-pages-next, pages-before-next, place-section, place-tracker, place-process-list, place-block-copy, ram-page-at}
 use Rattle.order_laws.specs.Room.{needed-parts}
 use Rattle.sv32_tables.specs.Filled.{pagesMapped, stackReserved, stack-reserved}
 use Rattle.accepted.specs.Fits.{Fits}
+use Rattle.loader.specs.LeafCursor.{Walkable, Passed}
 use Rattle.loader.specs.LeafEntries.{entriesOf, rightsOf}
+use Rattle.loader.proofs.LeafCursor.{pages-before-le}
 
 -- PLACES
 user-pages-le : (b : List ℕ) (m n : ℕ) → m ≤ n → userPages b m ≤ userPages b n
 unfolding userPages
 user-pages-le b m n h = sum-le m n _ h
-
-pages-before-le : (b : List ℕ) (q m n : ℕ) → m ≤ n → pagesBefore b q m ≤ pagesBefore b q n
-unfolding pagesBefore
-pages-before-le b q m n h = sum-le m n _ h
 
 kernel-place : (b : List ℕ) (q n : ℕ) → q ≡ 1 → n ≡ processCount b → sectionPlace b q ≡ 4 + userPages b (n - 1)
 unfolding sectionPlace
@@ -49,15 +47,26 @@ user-place : (b : List ℕ) (q : ℕ) → (q ≡ 1 → ⊥) → sectionPlace b q
 unfolding sectionPlace
 user-place b q n = rw (choose-no _ _ (ne-eqb q 1 n))
 
+-- process 2's sections come first, and those of process q + 1 after those of process q
+pub first-user-place : (b : List ℕ) (q : ℕ) → q ≡ 1 → sectionPlace b (q + 1) ≡ 4
+first-user-place b q e =
+    let s : q + 1 - 2 ≡ 0 = omega arith in
+    user-place b (q + 1) (λ z. omega arith) ∙ rw (s, user-pages-none b)
+
+pub next-user-place : (b : List ℕ) (q : ℕ) → 1 ≤ q → (q ≡ 1 → ⊥) → sectionPlace b (q + 1) ≡ sectionPlace b q + processPages b q
+next-user-place b q lo n =
+    let s : q - 2 + 2 ≡ q = omega arith in
+    let t : q + 1 - 2 ≡ q - 2 + 1 = omega arith in
+    let next : userPages b (q - 2 + 1) ≡ userPages b (q - 2) + processPages b q = rw s at (user-pages-next b (q - 2)) in
+    user-place b (q + 1) (λ z. omega arith) ∙ rw t (omega (arith, user-place b q n))
+
 -- the sections of process q end where the tracker begins, or before
 sections-le : (b : List ℕ) (q : ℕ) → 1 ≤ q → q ≤ processCount b → sectionPlace b q + processPages b q ≤ trackerPlace b
 unfolding trackerPlace
 sections-le b q lo hi = elim (ℕ-discrete q 1) [
   | yes e ↦ rw e (omega arith)
   | no e ↦
-      let s : q - 2 + 2 ≡ q = omega arith in
-      let n : userPages b (q - 2 + 1) ≡ userPages b (q - 2) + processPages b q = rw s at (user-pages-next b (q - 2)) in
-      omega (arith, user-place b q e, kernel-place b 1 _ refl refl, user-pages-le b (q - 2 + 1) (processCount b - 1) (omega arith))
+      omega (arith, next-user-place b q lo e, user-place b (q + 1) (λ z. omega arith), kernel-place b 1 _ refl refl, user-pages-le b (q + 1 - 2) (processCount b - 1) (omega arith))
 ]
 
 module _ {b : List ℕ} {ram : PageRange} (fits : Fits b ram) where
@@ -69,8 +78,9 @@ module _ {b : List ℕ} {ram : PageRange} (fits : Fits b ram) where
   pub tracker-end : (T : ℕ) → T ≡ trackerPages b (ram .pages) → 0xFFF40 + (T - 1) < 0x1_0000_0000
   tracker-end T e = omega (arith, tracker-room, fits .few-pages)
 
-  pub process-room : (q : ℕ) → 1 ≤ q → q ≤ processCount b → sectionPlace b q + 2 ≤ ram .pages
-  process-room q lo hi = omega (arith, tracker-room, sections-le b q lo hi)
+  -- the sections of a process can be gone through
+  pub walkable : (q : ℕ) → 1 ≤ q → q ≤ processCount b → Walkable b q
+  walkable q lo hi = record { low = lo; high = hi; rising = fits .sections-rise; room = omega (arith, tracker-room, sections-le b q lo hi, fits .few-pages) }
 
   section-room : (q j : ℕ) → 1 ≤ q → q ≤ processCount b → j ≤ sectionsOf b q → sectionPlace b q + pagesBefore b q j + 2 ≤ ram .pages
   unfolding processPages
@@ -133,6 +143,19 @@ module _ (phys : Use → ℕ) (m : ℕ) where
       rw (z, h))
 
 -- SECTIONS
+-- a search that finds nothing, and one that finds nothing from number a on
+find-last-no : (t : ℕ → Bool) (n : ℕ) → ((j : ℕ) → j < n → t j ≡ false) → findLast t n ≡ none
+find-last-no t n h = by-find-last t (λ m. m ≡ none) n (λ _. refl) (λ j e l. false-not-true (h j l) e)
+
+find-last-up : (t : ℕ → Bool) (a d : ℕ) → ((k : ℕ) → a ≤ k → k < a + d → t k ≡ false) → findLast t (a + d) ≡ findLast t a
+find-last-up t a zero h = let e : a + 0 ≡ a = omega arith in rw e
+find-last-up t a (suc d) h =
+    let e : a + suc d ≡ a + d + 1 = omega arith in
+    rw e (find-last-next t (a + d) ∙ choose-no _ _ (h (a + d) (omega arith) (omega arith)) ∙ find-last-up t a d (λ k l m. h k l (omega arith)))
+
+find-last-skip : (t : ℕ → Bool) (a n : ℕ) → a ≤ n → ((k : ℕ) → a ≤ k → k < n → t k ≡ false) → findLast t a ≡ findLast t n
+find-last-skip t a n l h = let e : a + (n - a) ≡ n = omega arith in sym (rw e at (find-last-up t a (n - a) (λ k i m. h k i (omega arith))))
+
 -- what stands at virtual page v once the first n sections of process q are mapped
 unfoldable pub ofFirst : List ℕ → ℕ → ℕ → ℕ → Mapping
 ofFirst b q n v = sectionMapping b q v (findLast (λ j. hasPage b v (sectionRecord b q j)) n)
@@ -143,15 +166,15 @@ pub record Mapped (b : List ℕ) (ram : PageRange) (q m j place : ℕ) (e : List
   pub room : place + 2 ≤ ram .pages
   pub done : e ≡ entriesOf (physPage b ram) (ofFirst b q j) m
 
-pub mapped-none : {b : List ℕ} {ram : PageRange} → Fits b ram → (q m : ℕ) → 1 ≤ q → q ≤ processCount b → {place : ℕ} {e : List ℕ}
-    → place ≡ sectionPlace b q
-    → e ≡ tab 1024 (λ i. 0)
-    → Mapped b ram q m 0 place e
-unfolding entriesOf ofFirst sectionMapping entryFor absentEntry
-mapped-none {b} fits q m lo hi p z = record {
-  at-place = omega (arith, pages-before-none b q);
-  room = omega (arith, process-room fits q lo hi);
-  done = z ∙ tab-same 1024 _ _ 0 (λ i _. rw find-last-none);
+-- those that end below the slot have no page in the table
+pub mapped-from : {b : List ℕ} {ram : PageRange} → Fits b ram → {q m j place : ℕ} → 1 ≤ q → q ≤ processCount b → Passed b q m j place → {e : List ℕ}
+    → e ≡ tab 1024 (λ i. 0) → Mapped b ram q m j place e
+unfolding entriesOf ofFirst sectionMapping hasPage entryFor absentEntry
+mapped-from {b} fits {q} {m} {j} lo hi p z = record {
+  at-place = p .at-place;
+  room = omega (arith, p .at-place, section-room fits q j lo hi (p .inside));
+  done = z ∙ tab-same 1024 _ _ 0 (λ i _. rw (find-last-no _ j (λ k h.
+      and-not-right (leb (firstPage b (sectionRecord b q k)) (1024 * m + i)) (lt-leb (1024 * m + i) (lastPage b (sectionRecord b q k)) (omega (arith, p .below k h))))));
 }
 
 -- one section more
@@ -204,6 +227,23 @@ pub mapped-all : {b : List ℕ} {ram : PageRange} {q m j place : ℕ} {e : List 
 unfolding ofFirst sectionAtPage
 mapped-all t l = rw l at (t .done)
 
+-- the sections from j on start above page v
+none-from : {b : List ℕ} {q : ℕ} → Walkable b q → (j v : ℕ) → j < sectionsOf b q → v < firstPage b (sectionRecord b q j) → ofFirst b q j v ≡ sectionAtPage b q v
+unfolding ofFirst sectionAtPage hasPage
+none-from {b} {q} w j v h l = ap (sectionMapping b q v) (find-last-skip _ j (sectionsOf b q) (omega arith) (λ k a z.
+    and-not-left _ (lt-leb (firstPage b (sectionRecord b q k)) v (elim (ℕ-discrete k j) [
+      | yes e ↦ rw e l
+      | no e ↦ omega (arith, w .rising .rise q j k (w .low) (w .high) (omega arith) z, w .rising .ends q j (w .low) (w .high) h)
+    ]))))
+
+pub mapped-stop : {b : List ℕ} {ram : PageRange} {q m j place : ℕ} {e : List ℕ} → Mapped b ram q m j place e → Walkable b q → {first : ℕ} {s : Section}
+    → first ≡ firstSection b q → j < sectionsOf b q → IsSection b (first + j) s → m < s .«first_page» .0 / 1024
+    → e ≡ entriesOf (physPage b ram) (sectionAtPage b q) m
+unfolding entriesOf sectionRecord
+mapped-stop {b} {ram} {q = q} {m} {j} t w f h is l =
+    let from : m < firstPage b (sectionRecord b q j) / 1024 = rw (is .first-page, f) at l in
+    t .done ∙ tab-same 1024 _ _ 0 (λ i n. ap (entryFor (physPage b ram)) (none-from w j (1024 * m + i) h (omega arith)))
+
 -- THE WHOLE TABLE
 module _ {b : List ℕ} {ram : PageRange} (fits : Fits b ram) where
   tracker-phys : (v P : ℕ) → inTracker (trackerPages b (ram .pages)) v ≡ true → P ≡ ram .base + (ram .pages - 1 - trackerPlace b)
@@ -255,14 +295,9 @@ pub leaf-kernel : (phys : Use → ℕ) (b : List ℕ) (T q m : ℕ) {e : List �
 unfolding entriesOf leafEntry mappingAt
 leaf-kernel phys b T q m s p = p ∙ tab-same 1024 _ _ 0 (λ i l. rw s (rw (choose-yes _ _ (eq-eqb ((1024 * 1023 + i) / 1024) 1023 (omega arith)))))
 
--- the kernel has a leaf table for slot 1,023 only
-not-kernel : (b : List ℕ) (q m : ℕ) → hasLeaf b q m ≡ true → (m ≡ 1023 → ⊥) → q ≡ 1 → ⊥
-unfolding hasLeaf choose
-not-kernel b q m h n e = n (eqb-true m 1023 (rw (eq-eqb q 1 e) at h))
-
-pub leaf-user : (phys : Use → ℕ) (b : List ℕ) (T q m : ℕ) {e : List ℕ} → (m ≡ 1023 → ⊥) → hasLeaf b q m ≡ true → e ≡ entriesOf phys (userPage b q) m
+pub leaf-user : (phys : Use → ℕ) (b : List ℕ) (T q m : ℕ) {e : List ℕ} → (q ≡ 1 → ⊥) → (m ≡ 1023 → ⊥) → e ≡ entriesOf phys (userPage b q) m
     → e ≡ tab 1024 (leafEntry b T phys q m)
 unfolding entriesOf leafEntry mappingAt
-leaf-user phys b T q m n h p =
+leaf-user phys b T q m k n p =
     p ∙ tab-same 1024 _ _ 0 (λ i l.
-    rw (choose-no _ _ (ne-eqb ((1024 * m + i) / 1024) 1023 (λ z. n (omega arith))), choose-no _ _ (ne-eqb q 1 (not-kernel b q m h n))))
+    rw (choose-no _ _ (ne-eqb ((1024 * m + i) / 1024) 1023 (λ z. n (omega arith))), choose-no _ _ (ne-eqb q 1 k)))

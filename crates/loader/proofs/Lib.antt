@@ -1,4 +1,5 @@
 pub mod Accepted
+pub mod LeafCursor
 pub mod LeafEntries
 pub mod Loading
 pub mod ProcessWords

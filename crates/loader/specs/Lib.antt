@@ -1,2 +1,3 @@
+pub mod LeafCursor
 pub mod LeafEntries
 pub mod TablePages

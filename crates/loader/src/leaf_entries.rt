@@ -10,14 +10,16 @@ ghost use Rattle.rules.specs.Order.{hasLeaf, trackerPages};
 ghost use Rattle.rules.specs.Tables.{leafEntry};
 ghost use Rattle.rules.specs.Load.{physPage};
 ghost use Rattle.accepted.specs.Fits.{Fits};
+ghost use Rattle.loader.specs.LeafCursor.{Passed};
 ghost use Rattle.loader.specs.LeafEntries.{entriesOf, rightsOf};
+use crate::leaf_cursor::LeafCursor;
 use block_records::Section;
-use order_places::section_place;
 use order_places::tracker_place;
 use page_allocator::page_at;
 use types::KERNEL_SLOT;
 use types::PageRange;
 use types::Rights;
+use types::TABLE_ENTRIES;
 use types::VirtPage;
 
 // The virtual page of the block copy.
@@ -53,21 +55,25 @@ fn kernel_rights(write: bool) -> Rights
     }
 }
 
-// Maps the sections of process q in the leaf table for root slot m, whose entries are all absent.
-fn map_sections(entries: &mut [u32], block: &[u8], range: PageRange, q: u32, m: u32)
-    requires { ⌜ Fits (now block) range × (1 ≤ q) × (q ≤ processCount (now block)) × (now entries ≡ tab 1024 (λ i. 0)) ⌝ }
-    ensures { λ _. ⌜ now (entries .exit) ≡ entriesOf (physPage (now (block .entry)) range) (sectionAtPage (now (block .entry)) q) m ⌝ }
+// Maps the sections of process q in a leaf table whose entries are all absent, from the first that has a page in it to the last.
+fn map_sections(entries: &mut [u32], block: &[u8], range: PageRange, q: u32, leaf: LeafCursor)
+    requires { ⌜ Fits (now block) range × (1 ≤ q) × (q ≤ processCount (now block)) × Passed (now block) q (leaf .slot) (leaf .section) (leaf .place)
+        × (now entries ≡ tab 1024 (λ i. 0)) ⌝ }
+    ensures { λ _. ⌜ now (entries .exit) ≡ entriesOf (physPage (now (block .entry)) range) (sectionAtPage (now (block .entry)) q) (leaf .slot) ⌝ }
 {
     let process = block_records::read_process(block, q);
     let first = process.first_section;
     let count = process.sections;
-    let mut place = section_place(block, q);
-    let mut j: u32 = 0;
+    let mut place = leaf.place;
+    let mut j = leaf.section;
     while j < count {
         let section = block_records::read_section(block, first as usize + j as usize);
+        if leaf.slot < section.first_page.0 / TABLE_ENTRIES {
+            return;
+        }
         sv32_tables::map_pages(
             entries,
-            m,
+            leaf.slot,
             section.first_page,
             section.last_page,
             page_at(range, place),
@@ -80,8 +86,9 @@ fn map_sections(entries: &mut [u32], block: &[u8], range: PageRange, q: u32, m: 
 
 // The kernel's leaf table: its sections, over them the block copy, then the tracker, and last the process list, which a
 // tracker of over 64 pages would reach.
-fn kernel_entries(entries: &mut [u32], block: &[u8], range: PageRange)
-    requires { ⌜ Fits (now block) range × (now entries ≡ tab 1024 (λ i. 0)) ⌝ }
+fn kernel_entries(entries: &mut [u32], block: &[u8], range: PageRange, leaf: LeafCursor)
+    requires { ⌜ Fits (now block) range × (leaf .slot ≡ 1023) × Passed (now block) 1 (leaf .slot) (leaf .section) (leaf .place)
+        × (now entries ≡ tab 1024 (λ i. 0)) ⌝ }
     ensures { λ _. ⌜ now (entries .exit) ≡ entriesOf (physPage (now (block .entry)) range) (kernelPage (now (block .entry)) (trackerPages (now (block .entry)) (range .pages))) 1023 ⌝ }
 {
     let place = tracker_place(block);
@@ -89,7 +96,7 @@ fn kernel_entries(entries: &mut [u32], block: &[u8], range: PageRange)
     let tracker = page_at(range, place);
     let list = page_at(range, place + count);
     let copy = page_at(range, place + count + 1);
-    map_sections(entries, block, range, 1, KERNEL_SLOT);
+    map_sections(entries, block, range, 1, leaf);
     let at = VirtPage(BLOCK_COPY);
     sv32_tables::map_pages(entries, KERNEL_SLOT, at, at, copy, kernel_rights(false));
     let from = VirtPage(TRACKER);
@@ -99,24 +106,31 @@ fn kernel_entries(entries: &mut [u32], block: &[u8], range: PageRange)
     sv32_tables::map_pages(entries, KERNEL_SLOT, at, at, list, kernel_rights(false));
 }
 
-// A user process's leaf table for root slot m: its sections, and over them the stack reservation.
-fn user_entries(entries: &mut [u32], block: &[u8], range: PageRange, q: u32, m: u32)
-    requires { ⌜ Fits (now block) range × (1 ≤ q) × (q ≤ processCount (now block)) × (now entries ≡ tab 1024 (λ i. 0)) ⌝ }
-    ensures { λ _. ⌜ now (entries .exit) ≡ entriesOf (physPage (now (block .entry)) range) (userPage (now (block .entry)) q) m ⌝ }
+// A user process's leaf table: its sections, and over them the stack reservation.
+fn user_entries(entries: &mut [u32], block: &[u8], range: PageRange, q: u32, leaf: LeafCursor)
+    requires { ⌜ Fits (now block) range × (1 ≤ q) × (q ≤ processCount (now block)) × Passed (now block) q (leaf .slot) (leaf .section) (leaf .place)
+        × (now entries ≡ tab 1024 (λ i. 0)) ⌝ }
+    ensures { λ _. ⌜ now (entries .exit) ≡ entriesOf (physPage (now (block .entry)) range) (userPage (now (block .entry)) q) (leaf .slot) ⌝ }
 {
-    map_sections(entries, block, range, q, m);
-    sv32_tables::reserve_stack(entries, m, block_records::stack_pages(block, q));
+    map_sections(entries, block, range, q, leaf);
+    sv32_tables::reserve_stack(entries, leaf.slot, block_records::stack_pages(block, q));
 }
 
-// The leaf table of process q for root slot m, from entries that are all absent. In slot 1,023 every process has the
-// kernel's mapping.
-pub(crate) fn leaf_entries(entries: &mut [u32], block: &[u8], range: PageRange, q: u32, m: u32)
-    requires { ⌜ Fits (now block) range × (1 ≤ q) × (q ≤ processCount (now block)) × (hasLeaf (now block) q m ≡ true) × (now entries ≡ tab 1024 (λ i. 0)) ⌝ }
-    ensures { λ _. ⌜ now (entries .exit) ≡ tab 1024 (leafEntry (now (block .entry)) (trackerPages (now (block .entry)) (range .pages)) (physPage (now (block .entry)) range) q m) ⌝ }
+// A leaf table of process q, from entries that are all absent.
+pub(crate) fn leaf_entries(
+    entries: &mut [u32],
+    block: &[u8],
+    range: PageRange,
+    q: u32,
+    leaf: LeafCursor,
+)
+    requires { ⌜ Fits (now block) range × (1 ≤ q) × (q ≤ processCount (now block)) × (hasLeaf (now block) q (leaf .slot) ≡ true)
+        × Passed (now block) q (leaf .slot) (leaf .section) (leaf .place) × (now entries ≡ tab 1024 (λ i. 0)) ⌝ }
+    ensures { λ _. ⌜ now (entries .exit) ≡ tab 1024 (leafEntry (now (block .entry)) (trackerPages (now (block .entry)) (range .pages)) (physPage (now (block .entry)) range) q (leaf .slot)) ⌝ }
 {
-    if m == KERNEL_SLOT {
-        kernel_entries(entries, block, range);
+    if q == 1 {
+        kernel_entries(entries, block, range, leaf);
         return;
     }
-    user_entries(entries, block, range, q, m);
+    user_entries(entries, block, range, q, leaf);
 }

@@ -12,6 +12,7 @@ use types::Answer;
 use types::PageRange;
 use types::TOP_PAGES;
 
+mod leaf_cursor;
 mod leaf_entries;
 mod process_list;
 mod table_pages;

@@ -1,19 +1,23 @@
 // Root and leaf tables: each is built as 1,024 entries, all absent at first, and stored as one page.
 ghost use mathlib.Core.Path.{_≡_};
 ghost use mathlib.Core.Bool.{true};
-ghost use Prim.Native.Nat.{_-_, _≤_, _<_};
+ghost use Prim.Native.Nat.{_+_, _-_, _≤_};
 ghost use lib.ListN.{length, getD};
 ghost use Rattle.notation.specs.Lists.{tab, gather};
 ghost use Rattle.rules.specs.Block.{processCount};
 ghost use Rattle.rules.specs.Order.{hasLeaf, tableUses, allTables, trackerPages, leafTable};
 ghost use Rattle.rules.specs.Tables.{rootEntry, leafEntry};
 ghost use Rattle.rules.specs.Load.{physPage, tableByte};
-ghost use Rattle.order_laws.specs.Places.{rootPlace};
+ghost use Rattle.order_laws.specs.Places.{sectionPlace, rootPlace};
 ghost use Rattle.order_leaves.specs.Leaves.{leafUses};
 ghost use Rattle.writing.specs.Pages.{put};
 ghost use Rattle.writing.specs.Loaded.{WroteAny};
 ghost use Rattle.accepted.specs.Fits.{Fits};
+ghost use Rattle.loader.specs.LeafCursor.{Walkable, Passed};
 ghost use Rattle.loader.specs.TablePages.{leafPointer, LeavesAt};
+use crate::leaf_cursor::LeafCursor;
+use crate::leaf_cursor::first_leaf;
+use crate::leaf_cursor::next_leaf;
 use crate::leaf_entries::leaf_entries;
 use page_allocator::PageAllocator;
 use page_allocator::physical;
@@ -22,6 +26,7 @@ use types::PageRange;
 use types::PhysPage;
 use types::RamPage;
 use types::TABLE_ENTRIES;
+use types::TOP_PAGES;
 
 // Stores a table as RAM page k.
 fn store(ram: &mut [u8], k: RamPage, entries: &[u32])
@@ -35,81 +40,86 @@ fn store(ram: &mut [u8], k: RamPage, entries: &[u32])
 }
 
 // Points a root table, whose entries are all absent, to the leaf tables of process q, which lie from physical page `first` downwards.
-fn point_to_leaves(entries: &mut [u32], block: &[u8], q: u32, first: PhysPage)
-    requires { ⌜ now entries ≡ tab 1024 (λ i. 0) ⌝ }
+// `place` is the place of its first section page.
+fn point_to_leaves(entries: &mut [u32], block: &[u8], q: u32, place: u32, first: PhysPage)
+    requires { ⌜ Walkable (now block) q × (place ≡ sectionPlace (now block) q) × (now entries ≡ tab 1024 (λ i. 0)) ⌝ }
     ensures { λ _. ⌜ now (entries .exit) ≡ tab 1024 (leafPointer (now (block .entry)) q (first .0)) ⌝ }
 {
     let mut page = first.0 as usize;
-    let mut m = order_leaves::next_leaf(block, q, 0);
-    while m < TABLE_ENTRIES {
-        sv32_tables::point_to_leaf(entries, m, PhysPage(page as u32));
+    let mut leaf = first_leaf(block, q, place);
+    while leaf.slot < TABLE_ENTRIES {
+        sv32_tables::point_to_leaf(entries, leaf.slot, PhysPage(page as u32));
         page = numbers::minus(page, 1);
-        m = order_leaves::next_leaf(block, q, m + 1);
+        leaf = next_leaf(block, q, leaf);
     }
 }
 
-// The root table of process q into RAM page k. Its leaf tables lie from physical page `first` downwards; the last entry points
-// to the kernel's leaf table.
+// The root table of process q into RAM page k. `place` is the place of its first section page. Its leaf tables lie from physical page
+// `first` downwards; the last entry points to the kernel's leaf table.
 fn load_root(
     ram: &mut [u8],
     k: RamPage,
     block: &[u8],
     range: PageRange,
     q: u32,
+    place: u32,
     first: PhysPage,
     kernel_leaf: PhysPage,
 )
-    requires { ⌜ LeavesAt (now block) range q (first .0) («kernel_leaf» .0) ⌝ }
+    requires { ⌜ Walkable (now block) q × (place ≡ sectionPlace (now block) q) × LeavesAt (now block) range q (first .0) («kernel_leaf» .0) ⌝ }
     ensures { λ _. ⌜ now (ram .exit) ≡ put (now (ram .entry)) (k .0) (tableByte (rootEntry (now (block .entry)) (physPage (now (block .entry)) range) q)) ⌝ }
 {
     let mut entries = [0u32; 1024];
-    point_to_leaves(&mut entries, block, q, first);
+    point_to_leaves(&mut entries, block, q, place, first);
     sv32_tables::point_to_leaf(&mut entries, KERNEL_SLOT, kernel_leaf);
     store(ram, k, &entries);
 }
 
-// The leaf table of process q for root slot m into RAM page k.
-fn load_leaf(ram: &mut [u8], k: RamPage, block: &[u8], range: PageRange, q: u32, m: u32)
-    requires { ⌜ Fits (now block) range × (1 ≤ q) × (q ≤ processCount (now block)) × (m < 1024) × (hasLeaf (now block) q m ≡ true) ⌝ }
-    ensures { λ _. ⌜ now (ram .exit) ≡ put (now (ram .entry)) (k .0) (tableByte (leafEntry (now (block .entry)) (trackerPages (now (block .entry)) (range .pages)) (physPage (now (block .entry)) range) q m)) ⌝ }
+// A leaf table of process q into RAM page k.
+fn load_leaf(ram: &mut [u8], k: RamPage, block: &[u8], range: PageRange, q: u32, leaf: LeafCursor)
+    requires { ⌜ Fits (now block) range × (1 ≤ q) × (q ≤ processCount (now block)) × (hasLeaf (now block) q (leaf .slot) ≡ true)
+        × Passed (now block) q (leaf .slot) (leaf .section) (leaf .place) ⌝ }
+    ensures { λ _. ⌜ now (ram .exit) ≡ put (now (ram .entry)) (k .0) (tableByte (leafEntry (now (block .entry)) (trackerPages (now (block .entry)) (range .pages)) (physPage (now (block .entry)) range) q (leaf .slot))) ⌝ }
 {
     let mut entries = [0u32; 1024];
-    leaf_entries(&mut entries, block, range, q, m);
+    leaf_entries(&mut entries, block, range, q, leaf);
     store(ram, k, &entries);
 }
 
-// The leaf tables of process q, rising.
+// The leaf tables of process q, rising. `place` is the place of its first section page.
 fn load_leaves(
     ram: &mut [u8],
     block: &[u8],
     range: PageRange,
     q: u32,
+    place: u32,
     from: PageAllocator,
 ) -> PageAllocator
-    requires { ⌜ Fits (now block) range × (1 ≤ q) × (q ≤ processCount (now block)) ⌝ }
+    requires { ⌜ Fits (now block) range × Walkable (now block) q × (place ≡ sectionPlace (now block) q) ⌝ }
     ensures { λ r. ⌜ WroteAny (now (block .entry)) range (gather 1024 (leafUses (now (block .entry)) q)) (now (ram .entry)) (from .left) (now (ram .exit)) (r .left) ⌝ }
 {
     let mut next = from;
-    let mut m = order_leaves::next_leaf(block, q, 0);
-    while m < TABLE_ENTRIES {
+    let mut leaf = first_leaf(block, q, place);
+    while leaf.slot < TABLE_ENTRIES {
         let got = next.allocate();
-        load_leaf(ram, got.page, block, range, q, m);
+        load_leaf(ram, got.page, block, range, q, leaf);
         next = got.rest;
-        m = order_leaves::next_leaf(block, q, m + 1);
+        leaf = next_leaf(block, q, leaf);
     }
     next
 }
 
-// The tables of process q: its root, then its leaves.
+// The tables of process q: its root, then its leaves. `place` is the place of its first section page.
 fn load_process_tables(
     ram: &mut [u8],
     block: &[u8],
     range: PageRange,
     q: u32,
+    place: u32,
     kernel_leaf: PhysPage,
     from: PageAllocator,
 ) -> PageAllocator
-    requires { ⌜ Fits (now block) range × (1 ≤ q) × (q ≤ processCount (now block)) × («kernel_leaf» .0 ≡ physPage (now block) range (leafTable 1 1023))
+    requires { ⌜ Fits (now block) range × Walkable (now block) q × (place ≡ sectionPlace (now block) q) × («kernel_leaf» .0 ≡ physPage (now block) range (leafTable 1 1023))
         × (from .left ≡ range .pages - rootPlace (now block) (trackerPages (now block) (range .pages)) q) ⌝ }
     ensures { λ r. ⌜ WroteAny (now (block .entry)) range (tableUses (now (block .entry)) q) (now (ram .entry)) (from .left) (now (ram .exit)) (r .left) ⌝ }
 {
@@ -117,8 +127,19 @@ fn load_process_tables(
     // The page that the first leaf table gets.
     let leaf = root.rest.allocate();
     let first = physical(range, leaf.page);
-    load_root(ram, root.page, block, range, q, first, kernel_leaf);
-    load_leaves(ram, block, range, q, root.rest)
+    load_root(ram, root.page, block, range, q, place, first, kernel_leaf);
+    load_leaves(ram, block, range, q, place, root.rest)
+}
+
+// The place of the first section page of process q + 1, from that of process q. Process 2 comes first in the order of pages, the kernel last.
+fn next_section_place(block: &[u8], q: u32, place: u32) -> u32
+    requires { ⌜ Walkable (now block) q × (place ≡ sectionPlace (now block) q) ⌝ }
+    ensures { λ r. ⌜ r ≡ sectionPlace (now (block .entry)) (q + 1) ⌝ }
+{
+    if q == 1 {
+        return TOP_PAGES;
+    }
+    place + order_places::process_pages(block, q) as u32
 }
 
 // The tables of all processes, the kernel's first.
@@ -137,9 +158,11 @@ pub(crate) fn load_tables(
     let kernel_leaf = physical(range, leaf.page);
     let count = block_header::process_count(block);
     let mut next = from;
+    let mut place = order_places::section_place(block, 1);
     let mut i: u32 = 0;
     while i < count {
-        next = load_process_tables(ram, block, range, i + 1, kernel_leaf, next);
+        next = load_process_tables(ram, block, range, i + 1, place, kernel_leaf, next);
+        place = next_section_place(block, i + 1, place);
         i += 1;
     }
     next

@@ -36,7 +36,9 @@ page-at-requires-3 : tie.Need-page-at-requires-3
 page-at-requires-3 c κs = search needs
 
 map-sections-requires : tie.Need-map-sections-requires
-map-sections-requires c κs = search needs
+map-sections-requires c κs =
+    let pre = c .before .before .before .before .before .before .before .before .pre in
+    (pre .0, omega arith, pre .0 .some-process, pre .2, pre .3)
 
 kernel-rights-requires : tie.Need-kernel-rights-requires
 kernel-rights-requires c κs = search needs
@@ -44,14 +46,14 @@ kernel-rights-requires c κs = search needs
 map-pages-requires : tie.Need-map-pages-requires
 map-pages-requires c κs = search needs
 
-sub-t14 : tie.Need-sub-t14
-sub-t14 c =
+sub-t15 : tie.Need-sub-t15
+sub-t15 c =
     let counts = c .before .before .before .before .before .before .before .before .before .before .before .before in
     let fits = counts .before .before .before .before .pre .0 in
     omega (arith, counts .tracker-pages .ensures .0, tracker-some fits)
 
-add-t15 : tie.Need-add-t15
-add-t15 c =
+add-t16 : tie.Need-add-t16
+add-t16 c =
     let counts = c .before .before .before .before .before .before .before .before .before .before .before .before in
     record { fits = tracker-end (counts .before .before .before .before .pre .0) _ (counts .tracker-pages .ensures .0) }
 
@@ -80,11 +82,12 @@ returns c =
     let places = sections .before .before in
     let first = places .before .before in
     let counts = first .before in
-    let fits = counts .before .before .before .before .pre .0 in
+    let pre = counts .before .before .before .before .pre in
+    let fits = pre .0 in
     kernel-is fits _ _ _ _ _ _ _ _ _
     (uncapped _ _ (counts .before .tracker-place .ensures) (omega (arith, tracker-room fits, fits .few-pages))) (counts .tracker-pages .ensures .0)
     (page-inside _ _ _ (first .page-at .ensures) (fits .end)) (page-inside _ _ _ (places .before .page-at2 .ensures) (fits .end)) (page-inside _ _ _ (places .page-at3 .ensures) (fits .end))
-    (sections .map-sections .ensures)
+    (rw (pre .1) at (sections .map-sections .ensures))
     (copy .map-pages .ensures ∙ rw (copy .before .kernel-rights .ensures))
     (tracker .map-pages2 .ensures ∙ rw (tracker .before .kernel-rights2 .ensures))
     (list .map-pages3 .ensures ∙ rw (list .before .kernel-rights3 .ensures))
@@ -105,8 +108,8 @@ kernel-entries-spec =
     map-sections-requires
     kernel-rights-requires
     map-pages-requires
-    sub-t14
-    add-t15
+    sub-t15
+    add-t16
     kernel-rights-requires-2
     map-pages-requires-2
     kernel-rights-requires-3

@@ -1,32 +1,27 @@
 use mathlib.Core.Path.{_≡_, refl}
 use Prim.Native.Nat.{_-_, _≤_}
 use lib.ListN.{length}
-use Rattle.order_places.proofs.Capped.{uncapped}
 use Rattle.page_allocator.proofs.PageAt.{page-inside}
-use Rattle.loader.proofs.LeafEntries.{process-room, Mapped, mapped-none, mapped-more, mapped-all}
+use Rattle.loader.proofs.LeafEntries.{walkable, Mapped, mapped-from, mapped-more, mapped-stop, mapped-all}
 use native.Mathlib.Omega.{arith}
 use borrow.Author.Needs.{needs}
 use Rattle.loader.proofs.leaf_entries.map_sections.Statement.{statement}
 use Rattle.loader.proofs.leaf_entries.map_sections.Tie as tie
 
 abbrev Inv-loop : tie.InvT-loop
-Inv-loop entries₀ block range q m first count place₀ j₀ entries place j =
-    (j ≤ count) × (length entries ≡ length entries₀) × Mapped block range q m j place entries
+Inv-loop entries₀ block range q leaf first count place₀ j₀ entries place j =
+    (j ≤ count) × (length entries ≡ length entries₀) × Mapped block range q (leaf .slot) j place entries
 
 abbrev μ-loop : tie.MeasureT-loop
-μ-loop entries₀ block range q m first count place₀ j₀ entries place j = count - j
+μ-loop entries₀ block range q leaf first count place₀ j₀ entries place j = count - j
 
 read-process-requires : tie.Need-read-process-requires Inv-loop μ-loop
 read-process-requires c κs = search needs
 
-section-place-requires : tie.Need-section-place-requires Inv-loop μ-loop
-section-place-requires c κs = search needs
-
 loop-holds : tie.Need-loop-holds Inv-loop μ-loop
 loop-holds c =
-    let pre = c .before .before .before .before .pre in
-    let place = uncapped _ _ (c .section-place .ensures) (omega (arith, process-room (pre .0) _ (pre .1) (pre .2), pre .0 .few-pages)) in
-    (search needs, refl, mapped-none (pre .0) _ _ (pre .1) (pre .2) place (pre .3))
+    let pre = c .before .before .before .pre in
+    (omega (arith, pre .3 .inside, c .read-process .ensures .sections-of), refl, mapped-from (pre .0) (pre .1) (pre .2) (pre .3) (pre .4))
 
 cast-read-section : tie.Need-cast-read-section Inv-loop μ-loop
 cast-read-section c = search needs
@@ -40,6 +35,18 @@ add-read-section c = search needs
 read-section-requires : tie.Need-read-section-requires Inv-loop μ-loop
 read-section-requires c κs = search needs
 
+same-length : tie.Need-same-length Inv-loop μ-loop
+same-length c = search needs
+
+returns : tie.Need-returns Inv-loop μ-loop
+returns c =
+    let read = c .before .before .before in
+    let loop = read .before .before in
+    let process = loop .before .read-process .ensures in
+    let pre = loop .before .before .before .before .pre in
+    mapped-stop (loop .loop .inv .2) (walkable (pre .0) _ (pre .1) (pre .2)) (process .first-section)
+    (omega (arith, read .before .loop-test .taken, process .sections-of)) (read .read-section .ensures) (c .if1 .taken)
+
 page-at-requires : tie.Need-page-at-requires Inv-loop μ-loop
 page-at-requires c κs = search needs
 
@@ -51,16 +58,16 @@ map-pages-requires c κs = search needs
 
 add-place : tie.Need-add-place Inv-loop μ-loop
 add-place c =
-    let read = c .before .before .before .before .before .before .before in
+    let read = c .before .before .before .before .before .before .before .before .before .before in
     let loop = read .before .before in
-    let fits = loop .before .before .before .before .before .pre .0 in
+    let fits = loop .before .before .before .before .pre .0 in
     omega (arith, read .read-section .ensures .pages-few, loop .loop .inv .2 .room, fits .few-pages)
 
 add-j : tie.Need-add-j Inv-loop μ-loop
 add-j c =
-    let loop = c .before .before .before .before .before .before .before .before .before in
+    let loop = c .before .before .before .before .before .before .before .before .before .before .before in
     let ok = loop .before .before .read-process .ok in
-    omega (arith, c .before .before .before .before .before .before .before .before .loop-test .taken)
+    omega (arith, loop .loop-test .taken)
 
 loop-less : tie.Need-loop-less Inv-loop μ-loop
 loop-less c = search needs
@@ -68,21 +75,21 @@ loop-less c = search needs
 loop-again : tie.Need-loop-again Inv-loop μ-loop
 loop-again c =
     let call = c .before .before .before in
-    let read = call .before .before .before .before in
+    let read = call .before .before .before .before .before .before .before in
     let loop = read .before .before in
-    let process = loop .before .before .read-process .ensures in
-    let pre = loop .before .before .before .before .before .pre in (
+    let process = loop .before .read-process .ensures in
+    let pre = loop .before .before .before .before .pre in (
       omega arith,
       omega arith,
       mapped-more (loop .loop .inv .2) (pre .0) (pre .1) (pre .2) (process .first-section) (process .sections-of) (read .before .loop-test .taken)
           (read .read-section .ensures) (call .before .section-rights .ensures) (page-inside _ _ _ (call .before .before .page-at .ensures) (pre .0 .end)) (call .map-pages .ensures),
     )
 
-same-length : tie.Need-same-length Inv-loop μ-loop
-same-length c = search needs
+same-length-2 : tie.Need-same-length-2 Inv-loop μ-loop
+same-length-2 c = search needs
 
-returns : tie.Need-returns Inv-loop μ-loop
-returns c = mapped-all (c .before .loop .inv .2) (omega (arith, c .before .before .before .read-process .ensures .sections-of))
+returns-2 : tie.Need-returns-2 Inv-loop μ-loop
+returns-2 c = mapped-all (c .before .loop .inv .2) (omega (arith, c .before .before .read-process .ensures .sections-of))
 
 pub map-sections-spec : {M : Type 1} → statement M
 map-sections-spec =
@@ -91,12 +98,13 @@ map-sections-spec =
     Inv-loop
     μ-loop
     read-process-requires
-    section-place-requires
     loop-holds
     cast-read-section
     cast-read-section-2
     add-read-section
     read-section-requires
+    same-length
+    returns
     page-at-requires
     section-rights-requires
     map-pages-requires
@@ -104,5 +112,5 @@ map-sections-spec =
     add-j
     loop-less
     loop-again
-    same-length
-    returns)
+    same-length-2
+    returns-2)

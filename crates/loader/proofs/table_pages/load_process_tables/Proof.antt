@@ -16,7 +16,8 @@ load-root-requires : tie.Need-load-root-requires
 load-root-requires c κs =
     let leaf = c .before .before in
     let pre = leaf .before .before .before .before .pre in
-    leaves-at _ _ _ _ _ (pre .0) (pre .1) (pre .2) (pre .3) (pre .4) (leaf .before .allocate .ensures .1) (leaf .allocate2 .ensures .0) (c .before .physical .ensures)
+    let at = leaves-at _ _ _ _ _ (pre .0) (pre .1 .low) (pre .1 .high) (pre .3) (pre .4) (leaf .before .allocate .ensures .1) (leaf .allocate2 .ensures .0) (c .before .physical .ensures) in
+    (pre .1, pre .2, at)
 
 load-leaves-requires : tie.Need-load-leaves-requires
 load-leaves-requires c κs =

@@ -1,0 +1,97 @@
+use native.Mathlib.Omega.{arith}
+use borrow.Author.Needs.{needs}
+use Prim.Native.Nat.{_-_}
+use Rattle.loader.specs.LeafCursor.{Passed}
+use Rattle.loader.proofs.LeafCursor.{leaf-found, leaf-own, passed-room, passed-more}
+use Rattle.loader.proofs.leaf_cursor.leaf_from.Statement.{statement}
+use Rattle.loader.proofs.leaf_cursor.leaf_from.Tie as tie
+
+abbrev Inv-loop : tie.InvT-loop
+Inv-loop block q m passed start first count place₀ j₀ place j = Passed block q m j place
+
+abbrev μ-loop : tie.MeasureT-loop
+μ-loop block q m passed start first count place₀ j₀ place j = count - j
+
+read-process-requires : tie.Need-read-process-requires Inv-loop μ-loop
+read-process-requires c κs = search needs
+
+loop-holds : tie.Need-loop-holds Inv-loop μ-loop
+loop-holds c = search needs
+
+cast-read-section : tie.Need-cast-read-section Inv-loop μ-loop
+cast-read-section c = search needs
+
+cast-read-section-2 : tie.Need-cast-read-section-2 Inv-loop μ-loop
+cast-read-section-2 c = search needs
+
+add-read-section : tie.Need-add-read-section Inv-loop μ-loop
+add-read-section c = search needs
+
+read-section-requires : tie.Need-read-section-requires Inv-loop μ-loop
+read-section-requires c κs = search needs
+
+later-requires : tie.Need-later-requires Inv-loop μ-loop
+later-requires c κs = search needs
+
+returns : tie.Need-returns Inv-loop μ-loop
+returns c =
+    let read = c .before .before .before .before in
+    let loop = read .before .before in
+    let process = loop .before .read-process .ensures in
+    leaf-found (loop .before .before .before .pre .0) (loop .loop .inv) (omega (arith, read .before .loop-test .taken, process .sections-of))
+    (process .first-section) (read .read-section .ensures) (c .before .before .if1 .taken) (c .later .ensures)
+
+add-place : tie.Need-add-place Inv-loop μ-loop
+add-place c =
+    let read = c .before .before .before in
+    let loop = read .before .before in
+    omega (arith, passed-room (loop .before .before .before .pre .0) (loop .loop .inv), read .read-section .ensures .pages-few)
+
+add-j : tie.Need-add-j Inv-loop μ-loop
+add-j c = search needs
+
+loop-less : tie.Need-loop-less Inv-loop μ-loop
+loop-less c = search needs
+
+loop-again : tie.Need-loop-again Inv-loop μ-loop
+loop-again c =
+    let read = c .before .before .before in
+    let loop = read .before .before in
+    let process = loop .before .read-process .ensures in
+    passed-more (loop .loop .inv) (omega (arith, read .before .loop-test .taken, process .sections-of)) (process .first-section) (read .read-section .ensures)
+    (omega (arith, c .before .if1 .left))
+
+own-slot-requires : tie.Need-own-slot-requires Inv-loop μ-loop
+own-slot-requires c κs = search needs
+
+slot-from-requires : tie.Need-slot-from-requires Inv-loop μ-loop
+slot-from-requires c κs = search needs
+
+returns-2 : tie.Need-returns-2 Inv-loop μ-loop
+returns-2 c =
+    let loop = c .before .before .before in
+    let process = loop .before .read-process .ensures in
+    leaf-own (loop .before .before .before .pre .0) (loop .loop .inv) (omega (arith, loop .loop .inv .inside, process .sections-of)) (c .before .own-slot .ensures)
+    (c .slot-from .ensures .0) (c .slot-from .ensures .1)
+
+pub leaf-from-spec : {M : Type 1} → statement M
+leaf-from-spec =
+    tie.close
+    (tie.spec
+    Inv-loop
+    μ-loop
+    read-process-requires
+    loop-holds
+    cast-read-section
+    cast-read-section-2
+    add-read-section
+    read-section-requires
+    later-requires
+    returns
+    add-place
+    add-j
+    loop-less
+    loop-again
+    own-slot-requires
+    slot-from-requires
+    returns-2)

@@ -1,0 +1,27 @@
+-- The leaf tables of a process, one after the other.
+use mathlib.Core.Path.{_≡_}
+use mathlib.Core.List.{List}
+use Prim.Native.Nat.{ℕ, _+_, _/_, _≤_, _<_}
+use Rattle.rules.specs.Block.{processCount, sectionsOf, sectionRecord, lastPage}
+use Rattle.rules.specs.Order.{hasLeaf}
+use Rattle.order_laws.specs.Places.{pagesBefore, processPages, sectionPlace}
+use Rattle.order_leaves.specs.Leaves.{First}
+use Rattle.accepted.specs.Sections.{Rising}
+
+-- a process of an accepted block: its sections rise, and their pages have places
+pub record Walkable (b : List ℕ) (q : ℕ) : Type 0 where
+  pub low : 1 ≤ q
+  pub high : q ≤ processCount b
+  pub rising : Rising b
+  pub room : sectionPlace b q + processPages b q ≤ 4096
+
+-- the sections of process q before section j end below root slot m, and `place` is the place of section j's first page
+pub record Passed (b : List ℕ) (q m j place : ℕ) : Type 0 where
+  pub inside : j ≤ sectionsOf b q
+  pub below : (k : ℕ) → k < j → lastPage b (sectionRecord b q k) / 1024 < m
+  pub at-place : place ≡ sectionPlace b q + pagesBefore b q j
+
+-- the first leaf table from root slot m on has slot r; the sections before section j end below it
+pub record LeafFrom (b : List ℕ) (q m r j place : ℕ) : Type 0 where
+  pub first : First (hasLeaf b q) m r
+  pub passed : Passed b q r j place
