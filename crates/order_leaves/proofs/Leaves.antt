@@ -1,13 +1,12 @@
--- The first root slot that passes a test, section by section; and the leaf tables below a slot.
-use mathlib.Core.Path.{_≡_, refl, sym, ap, _∙_}
+-- The first root slot that passes a test, section by section; and what is gathered below a slot.
+use mathlib.Core.Path.{_≡_, refl, sym, _∙_}
 use mathlib.Core.Bool.{Bool, true, false, _&&_}
-use mathlib.Core.List.{List, [], _∷_, append-nil}
+use mathlib.Core.List.{List, [], append-nil}
 use Prim.Native.Nat.{ℕ, zero, suc, _+_, _-_, _/_, _≤_, _<_, min, max}
 use native.Mathlib.Numerals.{add-one}
 use native.Mathlib.Decide.{decLt}
 use native.Mathlib.Omega.{arith}
 use lib.Dec.{leb, eqb}
-use lib.ListN.{length, length-append}
 use borrow.Author.Tests.{eq-eqb, ne-eqb, le-leb, lt-leb}
 use Rattle.notation.specs.Choice.{choose}
 use Rattle.notation.specs.Lists.{gather, exists}
@@ -15,8 +14,9 @@ use Rattle.laws.specs.Numbers.{leb-one}
 use Rattle.laws.specs.Choice.{choose-yes, choose-no, by-choose}
 use Rattle.laws.specs.Lists.{gather-next, some-of-tab}
 use Rattle.rules.specs.Block.{sectionsOf, sectionRecord, firstPage, lastPage}
-use Rattle.rules.specs.Order.{Use, leafTable, slotsOf, inSlots, hasLeaf, tableUses}
-use Rattle.order_leaves.specs.Leaves.{First, touched, leafUses}
+use Rattle.rules.specs.Order.{slotsOf, inSlots, hasLeaf}
+use Rattle.order_leaves.specs.Leaves.{First, touched}
+use Rattle.order_leaves.proofs.TakenSlots.{outside}
 
 -- FIRST
 first-same : {t u : ℕ → Bool} {m r : ℕ} → ((k : ℕ) → t k ≡ u k) → First u m r → First t m r
@@ -31,16 +31,6 @@ Earlier a z m n r = (r ≤ n) × (z < max a m → r ≡ n) × (max a m ≤ z →
 
 either : (c : Bool) {d : Bool} → d ≡ true → choose c true d ≡ true
 either c {d} e = by-choose (λ x. x ≡ true) c true d (λ _. refl) (λ _. e)
-
--- slot k is none of the slots from a to z
-outside : (a z k : ℕ) → ((a ≤ k) × (k ≤ z) → ⊥) → (leb a k && leb k z) ≡ false
-outside a z k h = elim (decLt k a) [
-  | yes l ↦ rw (lt-leb a k l)
-  | no l ↦ elim (decLt z k) [
-    | yes p ↦ rw (le-leb a k (omega arith), lt-leb k z p)
-    | no p ↦ absurd (h (omega arith, omega arith))
-  ]
-]
 
 -- the slots from a to z pass too
 first-also : (t : ℕ → Bool) (a z : ℕ) {m n r : ℕ} → First t m n → Earlier a z m n r → First (λ k. choose (leb a k && leb k z) true (t k)) m r
@@ -96,7 +86,7 @@ pub user-first : (b : List ℕ) (q m : ℕ) {n r : ℕ} → (q ≡ 1 → ⊥) �
 unfolding hasLeaf touched
 user-first b q m k f e = first-same (λ i. rw (choose-no (eqb i 1023) _ (ne-eqb q 1 k), some-of-tab, leb-one 511 i)) (first-also (touched b q (sectionsOf b q)) 511 511 f e)
 
--- THE LEAF TABLES BELOW A SLOT
+-- GATHERED BELOW A SLOT
 gather-skip : {A : Type 0} (f : ℕ → List A) (a d : ℕ) → ((k : ℕ) → a ≤ k → k < a + d → f k ≡ []) → gather (a + d) f ≡ gather a f
 gather-skip f a zero h = let e : a + 0 ≡ a = omega arith in rw e
 gather-skip f a (suc d) h =
@@ -108,33 +98,3 @@ pub gather-first : {A : Type 0} (f : ℕ → List A) {t : ℕ → Bool} {m r : �
 gather-first f {m = m} {r = r} p h n =
     let e : m + (r - m) ≡ r = omega (arith, p .low) in
     rw e at (gather-skip f m (r - m) (λ k l i. n k (p .before k l (omega arith))))
-
--- n tables: the root of process q and its leaves below root slot m, which is its next leaf's
-pub record Counted (b : List ℕ) (q m n : ℕ) : Type 0 where
-  pub inside : m ≤ 1024
-  pub here : m < 1024 → hasLeaf b q m ≡ true
-  pub count : n ≡ 1 + length (gather m (leafUses b q))
-  pub small : n ≤ m + 1
-
-skipped : (b : List ℕ) (q : ℕ) {m r : ℕ} → First (hasLeaf b q) m r → m ≤ 1024 → gather r (leafUses b q) ≡ gather m (leafUses b q)
-unfolding leafUses
-skipped b q f h = gather-first (leafUses b q) f h (λ k n. choose-no _ _ n)
-
-pub count-start : (b : List ℕ) (q : ℕ) {m : ℕ} → First (hasLeaf b q) 0 m → Counted b q m 1
-unfolding gather
-count-start b q f = record { inside = f .high; here = f .here; count = rw (skipped b q f (omega arith)); small = omega arith }
-
-pub count-next : (b : List ℕ) (q : ℕ) {m n r : ℕ} → Counted b q m n → m < 1024 → First (hasLeaf b q) (m + 1) r → Counted b q r (n + 1)
-unfolding leafUses
-count-next b q {m} {n} {r} c h f =
-    let one : leafUses b q m ≡ leafTable q m ∷ [] = choose-yes _ _ (c .here h) in
-    record {
-      inside = f .high;
-      here = f .here;
-      count = rw (skipped b q f (omega arith), gather-next m (leafUses b q), one, length-append) (omega (arith, c .count));
-      small = omega (arith, c .small, f .low);
-    }
-
-pub count-is : (b : List ℕ) (q : ℕ) {m n : ℕ} → Counted b q m n → 1024 ≤ m → n ≡ length (tableUses b q)
-unfolding tableUses leafUses
-count-is b q {m} c h = let e : m ≡ 1024 = omega (arith, c .inside) in omega (arith, rw e at (c .count))

@@ -5,6 +5,8 @@ ghost use lib.ListN.{length};
 ghost use Rattle.rules.specs.Block.{sectionsOf};
 ghost use Rattle.rules.specs.Order.{hasLeaf, tableUses};
 ghost use Rattle.order_leaves.specs.Leaves.{First, touched};
+ghost use Rattle.order_leaves.specs.TakenSlots.{slotTaken, withSlots, IsTaken};
+use numbers::both;
 use types::KERNEL_SLOT;
 use types::STACK_SLOT;
 use types::TABLE_ENTRIES;
@@ -55,15 +57,92 @@ pub fn next_leaf(block: &[u8], q: u32, m: u32) -> u32
     earlier(STACK_SLOT, STACK_SLOT, m, next_of_sections(block, q, m))
 }
 
-// How many tables process q has: its root table and its leaf tables.
+// The lower of two numbers.
+fn lower(a: u32, b: u32) -> u32
+    ensures { λ r. ⌜ r ≡ min a b ⌝ }
+{
+    if a < b { a } else { b }
+}
+
+// The higher of two numbers.
+fn higher(a: u32, b: u32) -> u32
+    ensures { λ r. ⌜ r ≡ max a b ⌝ }
+{
+    if a < b { b } else { a }
+}
+
+// One of the k section records from `first` on has a page in root slot m. The last is asked first.
+fn slot_taken(block: &[u8], first: u32, k: u32, m: u32) -> bool
+    ensures { λ r. ⌜ r ≡ slotTaken (now (block .entry)) first k m ⌝ }
+{
+    let mut i = k;
+    while 0 < i {
+        i -= 1;
+        let section = block_records::read_section(block, first as usize + i as usize);
+        if both(
+            section.first_page.0 / TABLE_ENTRIES <= m,
+            m <= section.last_page.0 / TABLE_ENTRIES,
+        ) {
+            return true;
+        }
+    }
+    false
+}
+
+// Some root slots: how many, and a slot that all of them are below.
+struct Taken {
+    slots: u32,
+    end: u32,
+}
+
+// The root slots of the k section records from `first` on, which are `taken`, with slots `from` to `to` added. Only those below
+// `taken.end` are looked for in the records: where sections rise, that is one at most.
+fn take_slots(block: &[u8], first: u32, k: u32, taken: Taken, from: u32, to: u32) -> Taken
+    requires { ⌜ IsTaken (slotTaken (now block) first k) taken ⌝ }
+    ensures { λ r. ⌜ IsTaken (withSlots from to (slotTaken (now (block .entry)) first k)) r ⌝ }
+{
+    // A section may end past the last root slot.
+    let end = lower(to, TABLE_ENTRIES - 1) + 1;
+    let shared = lower(taken.end, end);
+    let mut slots = taken.slots;
+    let mut m = from;
+    while m < shared {
+        if !slot_taken(block, first, k, m) {
+            slots += 1;
+        }
+        m += 1;
+    }
+    Taken {
+        slots: slots + (higher(end, m) - m),
+        end: higher(taken.end, end),
+    }
+}
+
+// How many tables process q has: its root table and its leaf tables. The kernel has one leaf table; a user process those of its
+// sections, section by section, and that of its stack.
 pub fn table_count(block: &[u8], q: u32) -> u32
     ensures { λ r. ⌜ r ≡ length (tableUses (now (block .entry)) q) ⌝ }
 {
-    let mut count: u32 = 1;
-    let mut m = next_leaf(block, q, 0);
-    while m < TABLE_ENTRIES {
-        count += 1;
-        m = next_leaf(block, q, m + 1);
+    if q == 1 {
+        return 2;
     }
-    count
+    let process = block_records::read_process(block, q);
+    let first = process.first_section;
+    let sections = process.sections;
+    let mut taken = Taken { slots: 0, end: 0 };
+    let mut j: u32 = 0;
+    while j < sections {
+        let section = block_records::read_section(block, first as usize + j as usize);
+        taken = take_slots(
+            block,
+            first,
+            j,
+            taken,
+            section.first_page.0 / TABLE_ENTRIES,
+            section.last_page.0 / TABLE_ENTRIES,
+        );
+        j += 1;
+    }
+    let all = take_slots(block, first, sections, taken, STACK_SLOT, STACK_SLOT);
+    1 + all.slots
 }
