@@ -1,53 +1,52 @@
 /*
- * A large board: 4,096 pages of RAM, sixteen processes, 4,000 section pages.
- * Each process has a section that is copied from flash, and one of the same
- * size that is not.
+ * The boards that are loaded: a large one, 01's small one, and one with as many
+ * root slots as sections.
  */
 #ifndef BOARD_H
 #define BOARD_H
 
-#include "rigpollen.h"
+#include "block.h"
 
-#define PROCESSES    16u
-#define KERNEL_PAGES 50u  /* of each of its two sections */
-#define USER_PAGES   130u
-#define COPIED_BYTES ((KERNEL_PAGES + (PROCESSES - 1) * USER_PAGES) * RIGPOLLEN_PAGE_BYTES)
-#define RAM_BYTES    (4096u * RIGPOLLEN_PAGE_BYTES)
-#define TOP_PAGES    4u /* at RAM's top: never written */
+#define RAM_PAGES_MAX 4096u
+#define TOP_PAGES     4u /* at RAM's top: never written */
 
-#define SECTIONS_AT  (32 + 16 * PROCESSES)
-#define BLOCK_BYTES  (SECTIONS_AT + 2 * 16 * PROCESSES)
+#define KERNEL        0xFFC00000u
 
-static void put_words(uint8_t *at, const uint32_t *words, int count)
-{
-    for (int i = 0; i < 4 * count; i++)
-        at[i] = (uint8_t)(words[i / 4] >> 8 * (i % 4));
-}
+enum { LARGE_BOARD, SMALL_BOARD, ROOT_SLOTS, BOARDS };
 
-static void make_block(uint8_t *block)
-{
-    const uint32_t head[8] = { 1, BLOCK_BYTES, PROCESSES, 32, 2 * PROCESSES,
-                               SECTIONS_AT, 0, BLOCK_BYTES };
-    uint32_t offset = 0;
-
-    put_words(block, head, 8);
-    for (uint32_t i = 0; i < PROCESSES; i++) {
-        const uint32_t start = i == 0 ? 0xFFC00000u : 0x10000u;
-        const uint32_t size = (i == 0 ? KERNEL_PAGES : USER_PAGES) * RIGPOLLEN_PAGE_BYTES;
-        const uint32_t process[4] = { start, 2 * i, 2, 0 };
-        const uint32_t sections[8] = { start, size, offset, 4,
-                                       start + size, size, 0, 3 };
-
-        put_words(block + 32 + 16 * i, process, 4);
-        put_words(block + SECTIONS_AT + 32 * i, sections, 8);
-        offset += size;
-    }
-}
+static const struct {
+    const char *name;
+    uint32_t ram_pages;
+    struct board board;
+} boards[BOARDS] = {
+    /* sixteen processes, 4,000 section pages: each process has a section that
+     * is copied from flash, and one of the same size that is not */
+    [LARGE_BOARD] = { "large board", 4096, {
+        .users = 15,
+        .kernel = { KERNEL, { { 1, KERNEL, 0, 50 * PAGE, EXECUTABLE },
+                              { 1, KERNEL + 50 * PAGE, 0, 50 * PAGE, NOCOPY | WRITABLE } } },
+        .user = { 0x10000, { { 1, 0x10000, 0, 130 * PAGE, EXECUTABLE },
+                             { 1, 0x10000 + 130 * PAGE, 0, 130 * PAGE, NOCOPY | WRITABLE } } },
+    } },
+    [SMALL_BOARD] = { "small board", 16, {
+        .users = 1,
+        .kernel = { 0xFFC00010u, { { 1, KERNEL, 0, 256, EXECUTABLE } } },
+        .user = { 0x10020, { { 1, 0x10020, 0, 64, EXECUTABLE },
+                             { 1, 0x20000, 0, PAGE, NOCOPY | WRITABLE } } },
+        .region = { 0xF0000000u, 2 },
+    } },
+    /* each section of a user process has a root slot of its own */
+    [ROOT_SLOTS] = { "60 root slots", 4096, {
+        .users = 15,
+        .kernel = { KERNEL, { { 1, KERNEL, 0, PAGE, EXECUTABLE } } },
+        .user = { SLOT, { { 4, SLOT, SLOT, PAGE, EXECUTABLE } } },
+    } },
+};
 
 /* Nothing is to be gained from bytes that are alike. */
-static void make_flash(uint8_t *flash)
+static void make_flash(uint8_t *flash, uint32_t bytes)
 {
-    for (uint32_t i = 0; i < COPIED_BYTES; i++)
+    for (uint32_t i = 0; i < bytes; i++)
         flash[i] = (uint8_t)(i * 0x9E3779B1u >> 24);
 }
 

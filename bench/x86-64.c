@@ -13,7 +13,7 @@
 
 #define TURNS 100
 
-static uint8_t block[BLOCK_BYTES];
+static struct block block;
 
 static double seconds(void)
 {
@@ -30,29 +30,31 @@ static double least(double a, double b)
 
 int main(void)
 {
-    uint8_t *const ram = aligned_alloc(RIGPOLLEN_PAGE_BYTES, RAM_BYTES);
-    uint8_t *const flash = aligned_alloc(RIGPOLLEN_PAGE_BYTES, COPIED_BYTES);
+    const uint32_t ram_bytes = boards[LARGE_BOARD].ram_pages * PAGE;
+    uint8_t *ram, *flash;
     uint32_t answer[RIGPOLLEN_ANSWER_WORDS];
     double load = 1e9, memory = 1e9;
 
+    make_block(&block, &boards[LARGE_BOARD].board);
+    ram = aligned_alloc(PAGE, ram_bytes);
+    flash = aligned_alloc(PAGE, block.copied);
     if (ram == NULL || flash == NULL)
         return 1;
-    make_block(block);
-    make_flash(flash);
-    memset(ram, 0xA5, RAM_BYTES);
+    make_flash(flash, block.copied);
+    memset(ram, 0xA5, ram_bytes);
     for (int i = 0; i < TURNS; i++) {
         double before = seconds();
         uint32_t pages;
 
-        rigpollen_answer(block, BLOCK_BYTES, flash, COPIED_BYTES, ram, RAM_BYTES,
+        rigpollen_answer(block.bytes, block.length, flash, block.copied, ram, ram_bytes,
                          0x80000000u, answer, RIGPOLLEN_ANSWER_WORDS);
         load = least(load, seconds() - before);
         if (answer[RIGPOLLEN_ANSWER_NUMBER] != RIGPOLLEN_LOADED)
             return 1;
         pages = answer[RIGPOLLEN_ANSWER_TAKEN] - TOP_PAGES;
         before = seconds();
-        memset(ram, 0, (size_t)pages * RIGPOLLEN_PAGE_BYTES);
-        memcpy(ram, flash, COPIED_BYTES);
+        memset(ram, 0, (size_t)pages * PAGE);
+        memcpy(ram, flash, block.copied);
         memory = least(memory, seconds() - before);
     }
     printf("load %.0f memory %.0f\n", 1e6 * load, 1e6 * memory);
