@@ -3,19 +3,12 @@ use types::Area;
 ghost use mathlib.Core.Bool.{not, _&&_};
 ghost use mathlib.Core.List.{[], _∷_};
 ghost use mathlib.Core.Path.{_≡_};
-ghost use Prim.Native.Nat.{_-_, _*_, _%_, max};
+ghost use Prim.Native.Nat.{_-_, _*_, _%_};
 ghost use lib.Dec.{eqb, ltb};
 ghost use Rattle.notation.specs.Choice.{any};
 ghost use Rattle.rules.specs.Lent.{areaOf, endOf, shareAddress};
 ghost use Rattle.rules.specs.Block.{regionArea};
 ghost use Rattle.rules.specs.Refusals.{regionUnfit};
-
-// The larger of two numbers.
-fn larger(a: usize, b: usize) -> usize
-    ensures { λ r. ⌜ r ≡ max a b ⌝ }
-{
-    if a < b { b } else { a }
-}
 
 // Some address is in the area and in the `pages` pages from `start` on.
 fn share_address(area: Area, start: u32, pages: u32) -> bool
@@ -23,7 +16,7 @@ fn share_address(area: Area, start: u32, pages: u32) -> bool
 {
     let area_end = area.start as usize + area.length as usize;
     let end = start as usize + 4096 * (pages as usize);
-    larger(area.start as usize, start as usize) < numbers::least(area_end, end)
+    numbers::greatest(area.start as usize, start as usize) < numbers::least(area_end, end)
 }
 
 // Refusal 11 of a start, pages, an end, a start below the region before, an address shared with RAM, and the I/O total.

@@ -2,7 +2,7 @@
 use mathlib.Core.Path.{_≡_, refl, sym, ap, _∙_}
 use mathlib.Core.Logic.{_≢_}
 use mathlib.Core.Bool.{true, false}
-use mathlib.Core.List.{List, [], _∷_}
+use mathlib.Core.List.{List, [], _∷_, append-nil}
 use Prim.Native.Nat.{ℕ, zero, suc, _+_, _-_, _*_, _/_, _%_, _≤_, _<_, min}
 use native.Mathlib.Nat.{mod-eq-of-lt}
 use native.Mathlib.Decide.{ℕ-discrete}
@@ -20,11 +20,9 @@ use Rattle.rules.specs.Entries.{pointerEntry, absentEntry}
 use Rattle.rules.specs.Tables.{rootEntry, leafEntry}
 use Rattle.rules.specs.Load.{physPage, tableByte, pageByte}
 use Rattle.laws.specs.Choice.{by-test, choose-yes, choose-no}
-use Rattle.laws.specs.Lists.{tab-length, tab-get, tab-by, tab-same}
+use Rattle.laws.specs.Lists.{tab-length, tab-get, tab-by, tab-same, gather-next}
 use Rattle.laws.specs.Counts.{one, one-yes, one-no, sum-at, sum-zero}
 use Rattle.word_stores.specs.Words.{withWords}
-use Rattle.order_leaves.specs.Leaves.{First, leafUses}
-use Rattle.order_leaves.proofs.Leaves.{gather-first}
 use Rattle.stores.proofs.Written.{Written, written-none, written-more, written-skip}
 use Rattle.order_laws.specs.Uses.{kernel-leaf}
 use Rattle.order_laws.specs.Places.{leavesBelow, leaves-below-none, leaves-below-next, rootPlace, tableCount, place-leaf, ram-page-at, tables-length, tables-before-none}
@@ -33,7 +31,8 @@ use Rattle.writing.specs.Pages.{put, put-part, put-same}
 use Rattle.writing.specs.Uses.{wrote-page}
 use Rattle.writing.specs.Loaded.{content, WroteAny, wrote-any, any-then}
 use Rattle.accepted.specs.Fits.{Fits}
-use Rattle.loader.specs.TablePages.{leafPointer, LeavesAt}
+use Rattle.loader.specs.LeafCursor.{First}
+use Rattle.loader.specs.TablePages.{leafUses, leafPointer, LeavesAt}
 
 -- a page of at most 4,096 bytes with 1,024 words stored in it
 table-stored : (d ws : List ℕ) → length ws ≡ 1024 → length d ≤ 4096 → withWords d ws ≡ tab (length d) (tableByte (λ i. getD ws i 0))
@@ -70,11 +69,20 @@ unfolding leafUses choose content pageByte
 one-leaf b ram q m r n e l k p = rw e (wrote-any (λ flash. wrote-page (leafTable q m) _ l k p (λ o _. refl)))
 
 -- FROM ONE LEAF TO THE NEXT
+gather-skip : {A : Type 0} (f : ℕ → List A) (a d : ℕ) → ((k : ℕ) → a ≤ k → k < a + d → f k ≡ []) → gather (a + d) f ≡ gather a f
+gather-skip f a zero h = let e : a + 0 ≡ a = omega arith in rw e
+gather-skip f a (suc d) h =
+    let e : a + suc d ≡ a + d + 1 = omega arith in
+    rw (e, gather-next (a + d) f, h (a + d) (omega arith) (omega arith), append-nil) (gather-skip f a d (λ k l m. h k l (omega arith)))
+
 -- a leaf table after those below root slot m, and none up to the next
 pub next-leaves : (b : List ℕ) (ram : PageRange) (q : ℕ) {m r : ℕ} {d₀ : List ℕ} {n₀ : ℕ} {d : List ℕ} {n : ℕ} → First (hasLeaf b q) m r → m ≤ 1024
     → WroteAny b ram (gather m (leafUses b q)) d₀ n₀ d n → WroteAny b ram (gather r (leafUses b q)) d₀ n₀ d n
 unfolding leafUses
-next-leaves b ram q f h w = rw (gather-first (leafUses b q) f h (λ k e. choose-no _ _ e)) w
+next-leaves b ram q {m} {r} f h w =
+    let e : m + (r - m) ≡ r = omega (arith, f .low) in
+    let none : gather r (leafUses b q) ≡ gather m (leafUses b q) = rw e at (gather-skip (leafUses b q) m (r - m) (λ k l i. choose-no _ _ (f .before k l (omega arith)))) in
+    rw none w
 
 -- THE ROOT TABLE
 -- the slots below m point to their leaf tables, and `page` is that of the next one, for slot m

@@ -1,12 +1,19 @@
 -- The leaf tables of a process, one after the other.
 use mathlib.Core.Path.{_≡_}
+use mathlib.Core.Bool.{Bool, true, false}
 use mathlib.Core.List.{List}
-use Prim.Native.Nat.{ℕ, _+_, _/_, _≤_, _<_}
+use Prim.Native.Nat.{ℕ, _+_, _/_, _≤_, _<_, min}
 use Rattle.rules.specs.Block.{processCount, sectionsOf, sectionRecord, lastPage}
 use Rattle.rules.specs.Order.{hasLeaf}
 use Rattle.order_laws.specs.Places.{pagesBefore, processPages, sectionPlace}
-use Rattle.order_leaves.specs.Leaves.{First}
 use Rattle.accepted.specs.Sections.{Rising}
+
+-- r is the first root slot from m on that passes the test, or 1,024 where none does
+pub record First (t : ℕ → Bool) (m r : ℕ) : Type 0 where
+  pub low : min m 1024 ≤ r
+  pub high : r ≤ 1024
+  pub before : (k : ℕ) → m ≤ k → k < r → t k ≡ false
+  pub here : r < 1024 → t r ≡ true
 
 -- a process of an accepted block: its sections rise, and their pages have places
 pub record Walkable (b : List ℕ) (q : ℕ) : Type 0 where

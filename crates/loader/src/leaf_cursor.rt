@@ -1,9 +1,10 @@
 // The leaf tables of an accepted process, by rising root slot. Its sections rise, so each is found from where the one before was.
 ghost use mathlib.Core.Path.{_≡_};
-ghost use Prim.Native.Nat.{_+_, _≤_, _<_, max};
+ghost use Prim.Native.Nat.{_+_, _≤_, _<_};
 ghost use Rattle.order_laws.specs.Places.{sectionPlace};
 ghost use Rattle.accepted.specs.Sections.{ownSlot};
 ghost use Rattle.loader.specs.LeafCursor.{Walkable, Passed, LeafFrom};
+use numbers::greatest;
 use types::KERNEL_SLOT;
 use types::STACK_SLOT;
 use types::TABLE_ENTRIES;
@@ -15,13 +16,6 @@ pub(crate) struct LeafCursor {
     // The first section that does not end below that slot, and the place of its first page in the order of pages.
     pub section: u32,
     pub place: u32,
-}
-
-// The later of two root slots.
-fn later(a: u32, b: u32) -> u32
-    ensures { λ r. ⌜ r ≡ max a b ⌝ }
-{
-    if a < b { b } else { a }
 }
 
 // The slot for which process q has a leaf table whatever its sections.
@@ -53,7 +47,7 @@ fn leaf_from(block: &[u8], q: u32, m: u32, passed: u32, start: u32) -> LeafCurso
         let section = block_records::read_section(block, first as usize + j as usize);
         if m <= section.last_page.0 / TABLE_ENTRIES {
             return LeafCursor {
-                slot: later(m, section.first_page.0 / TABLE_ENTRIES),
+                slot: greatest(m as usize, (section.first_page.0 / TABLE_ENTRIES) as usize) as u32,
                 section: j,
                 place,
             };

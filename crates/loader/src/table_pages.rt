@@ -9,12 +9,11 @@ ghost use Rattle.rules.specs.Order.{hasLeaf, tableUses, allTables, trackerPages
 ghost use Rattle.rules.specs.Tables.{rootEntry, leafEntry};
 ghost use Rattle.rules.specs.Load.{physPage, tableByte};
 ghost use Rattle.order_laws.specs.Places.{sectionPlace, rootPlace};
-ghost use Rattle.order_leaves.specs.Leaves.{leafUses};
 ghost use Rattle.writing.specs.Pages.{put};
 ghost use Rattle.writing.specs.Loaded.{WroteAny};
 ghost use Rattle.accepted.specs.Fits.{Fits};
 ghost use Rattle.loader.specs.LeafCursor.{Walkable, Passed};
-ghost use Rattle.loader.specs.TablePages.{leafPointer, LeavesAt};
+ghost use Rattle.loader.specs.TablePages.{leafUses, leafPointer, LeavesAt};
 use crate::leaf_cursor::LeafCursor;
 use crate::leaf_cursor::first_leaf;
 use crate::leaf_cursor::next_leaf;

@@ -1,7 +1,7 @@
 // Numbers, bits and truth values: each function answers for any input, and nothing wraps.
 ghost use mathlib.Core.Bool.{_&&_};
 ghost use mathlib.Core.Path.{_≡_};
-ghost use Prim.Native.Nat.{_-_, _≤_, min};
+ghost use Prim.Native.Nat.{_-_, _≤_, min, max};
 ghost use Rattle.notation.specs.Choice.{choose};
 ghost use Rattle.notation.specs.Words.{bit};
 
@@ -10,6 +10,13 @@ pub fn least(a: usize, b: usize) -> usize
     ensures { λ r. ⌜ r ≡ min a b ⌝ }
 {
     if a < b { a } else { b }
+}
+
+// The larger of two numbers.
+pub fn greatest(a: usize, b: usize) -> usize
+    ensures { λ r. ⌜ r ≡ max a b ⌝ }
+{
+    if a < b { b } else { a }
 }
 
 // The difference, 0 where b is larger.

@@ -23,7 +23,7 @@ use Rattle.order_leaves.specs.TakenSlots.{slotTaken, withSlots, IsTaken}
 use Rattle.order_leaves.specs.declared.Taken.{Taken}
 
 -- slot k is none of the slots from a to z
-pub outside : (a z k : ℕ) → ((a ≤ k) × (k ≤ z) → ⊥) → (leb a k && leb k z) ≡ false
+outside : (a z k : ℕ) → ((a ≤ k) × (k ≤ z) → ⊥) → (leb a k && leb k z) ≡ false
 outside a z k h = elim (decLt k a) [
   | yes l ↦ rw (lt-leb a k l)
   | no l ↦ elim (decLt z k) [
@@ -103,9 +103,9 @@ added-next t a z m h l = sum-next m _ ∙ ap (λ n. sum m (added t a z) + n)
     (by-test (λ c. one (choose c false (leb a m && leb m z)) ≡ one (not c)) (t m) (λ _. refl) (λ _. rw (le-leb a m h, le-leb m z l)))
 
 -- the slots from m on: up to slot e none passes, and after it none is one of those from a to z
-added-rest : (t : ℕ → Bool) (a z m e : ℕ) {x : ℕ} → e ≡ min z 1023 + 1 → a ≤ m → m ≤ max a e → ((k : ℕ) → m ≤ k → k < e → t k ≡ false) → x ≡ max e m
-    → sum 1024 (added t a z) ≡ sum m (added t a z) + (x - m)
-added-rest t a z m e d h l n ex = elim (decLt a e) [
+added-rest : (t : ℕ → Bool) (a z m e : ℕ) → e ≡ min (z + 1) 1024 → a ≤ m → m ≤ max a e → ((k : ℕ) → m ≤ k → k < e → t k ≡ false)
+    → sum 1024 (added t a z) ≡ sum m (added t a z) + (e - m)
+added-rest t a z m e d h l n = elim (decLt a e) [
   | yes p ↦
       let to : m + (e - m) ≡ e = omega arith in
       let all : e + (1024 - e) ≡ 1024 = omega arith in
@@ -125,11 +125,11 @@ with-count : (t : ℕ → Bool) (a z m w : ℕ) {n s : ℕ} → s ≡ sum 1024 (
 with-count t a z m w es en e = omega (arith, with-sum t a z 1024)
 
 -- with the slots from a to z: n are counted below slot m, and from there up to slot e none passes
-pub is-taken-with : {t : ℕ → Bool} {r : Taken} (a z m e n x : ℕ) {y : ℕ} → IsTaken t r → e ≡ min z 1023 + 1 → a ≤ m → m ≤ max a (min (r .end) e) → min (r .end) e ≤ m
-    → n ≡ r .slots + sum m (added t a z) → x ≡ max e m → y ≡ max (r .end) e → IsTaken (withSlots a z t) (record { slots = n + (x - m); end = y })
+pub is-taken-with : {t : ℕ → Bool} {r : Taken} (a z m e n : ℕ) {w y : ℕ} → IsTaken t r → e ≡ min (z + 1) 1024 → a ≤ m → m ≤ max a (min (r .end) e) → min (r .end) e ≤ m
+    → n ≡ r .slots + sum m (added t a z) → w ≡ e - m → y ≡ max (r .end) e → IsTaken (withSlots a z t) (record { slots = n + w; end = y })
 unfolding withSlots
-is-taken-with {t} {r} a z m e n x i d h l g c ex ey = record {
-  slots-are = with-count t a z m (x - m) (i .slots-are) c (added-rest t a z m e d h (omega arith) (λ k p q. i .none-after k (omega arith) (omega arith)) ex);
+is-taken-with {t} {r} a z m e n {w} i d h l g c ew ey = record {
+  slots-are = with-count t a z m w (i .slots-are) c (rw ew (added-rest t a z m e d h (omega arith) (λ k p q. i .none-after k (omega arith) (omega arith))));
   end-low = omega (arith, i .end-low);
   none-after = λ k p q. choose-no _ _ (outside a z k (λ j. let v = j .1 in omega arith)) ∙ i .none-after k (omega arith) q;
 }

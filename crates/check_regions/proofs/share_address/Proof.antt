@@ -18,18 +18,18 @@ mul-end c = search needs
 add-end : tie.Need-add-end
 add-end c = search needs
 
-cast-larger : tie.Need-cast-larger
-cast-larger c = search needs
+cast-greatest : tie.Need-cast-greatest
+cast-greatest c = search needs
 
-larger-requires : tie.Need-larger-requires
-larger-requires c κs = search needs
+greatest-requires : tie.Need-greatest-requires
+greatest-requires c κs = search needs
 
 least-requires : tie.Need-least-requires
 least-requires c κs = search needs
 
 returns : tie.Need-returns
 unfolding shareAddress
-returns c = rw (c .before .larger .ensures, c .least .ensures)
+returns c = rw (c .before .greatest .ensures, c .least .ensures)
 
 pub share-address-spec : {M : Type 1} → statement M
 share-address-spec =
@@ -40,7 +40,7 @@ share-address-spec =
     add-area-end
     mul-end
     add-end
-    cast-larger
-    larger-requires
+    cast-greatest
+    greatest-requires
     least-requires
     returns)

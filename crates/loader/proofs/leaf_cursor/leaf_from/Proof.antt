@@ -30,8 +30,14 @@ add-read-section c = search needs
 read-section-requires : tie.Need-read-section-requires Inv-loop μ-loop
 read-section-requires c κs = search needs
 
-later-requires : tie.Need-later-requires Inv-loop μ-loop
-later-requires c κs = search needs
+cast-greatest : tie.Need-cast-greatest Inv-loop μ-loop
+cast-greatest c = search needs
+
+greatest-requires : tie.Need-greatest-requires Inv-loop μ-loop
+greatest-requires c κs = search needs
+
+cast-t21 : tie.Need-cast-t21 Inv-loop μ-loop
+cast-t21 c = search needs
 
 returns : tie.Need-returns Inv-loop μ-loop
 returns c =
@@ -39,7 +45,7 @@ returns c =
     let loop = read .before .before in
     let process = loop .before .read-process .ensures in
     leaf-found (loop .before .before .before .pre .0) (loop .loop .inv) (omega (arith, read .before .loop-test .taken, process .sections-of))
-    (process .first-section) (read .read-section .ensures) (c .before .before .if1 .taken) (c .later .ensures)
+    (process .first-section) (read .read-section .ensures) (c .before .before .if1 .taken) (c .greatest .ensures)
 
 add-place : tie.Need-add-place Inv-loop μ-loop
 add-place c =
@@ -86,7 +92,9 @@ leaf-from-spec =
     cast-read-section-2
     add-read-section
     read-section-requires
-    later-requires
+    cast-greatest
+    greatest-requires
+    cast-t21
     returns
     add-place
     add-j

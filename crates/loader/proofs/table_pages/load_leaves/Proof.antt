@@ -4,7 +4,7 @@ use Prim.Native.Nat.{_-_, _≤_, _<_}
 use Rattle.notation.specs.Lists.{gather}
 use Rattle.rules.specs.Order.{hasLeaf}
 use Rattle.writing.specs.Loaded.{WroteAny, any-gather-none, any-gather-next}
-use Rattle.order_leaves.specs.Leaves.{leafUses}
+use Rattle.loader.specs.TablePages.{leafUses}
 use Rattle.loader.specs.LeafCursor.{Passed}
 use Rattle.loader.proofs.TablePages.{next-leaves, one-leaf}
 use native.Mathlib.Omega.{arith}
