@@ -167,12 +167,12 @@ pub record Mapped (b : List ℕ) (ram : PageRange) (q m j place : ℕ) (e : List
   pub done : e ≡ entriesOf (physPage b ram) (ofFirst b q j) m
 
 -- those that end below the slot have no page in the table
-pub mapped-from : {b : List ℕ} {ram : PageRange} → Fits b ram → {q m j place : ℕ} → 1 ≤ q → q ≤ processCount b → Passed b q m j place → {e : List ℕ}
+pub mapped-from : {b : List ℕ} {ram : PageRange} → Fits b ram → {q m j place : ℕ} → Walkable b q → Passed b q m j place → {e : List ℕ}
     → e ≡ tab 1024 (λ i. 0) → Mapped b ram q m j place e
 unfolding entriesOf ofFirst sectionMapping hasPage entryFor absentEntry
-mapped-from {b} fits {q} {m} {j} lo hi p z = record {
+mapped-from {b} fits {q} {m} {j} w p z = record {
   at-place = p .at-place;
-  room = omega (arith, p .at-place, section-room fits q j lo hi (p .inside));
+  room = omega (arith, p .at-place, section-room fits q j (w .low) (w .high) (p .inside));
   done = z ∙ tab-same 1024 _ _ 0 (λ i _. rw (find-last-no _ j (λ k h.
       and-not-right (leb (firstPage b (sectionRecord b q k)) (1024 * m + i)) (lt-leb (1024 * m + i) (lastPage b (sectionRecord b q k)) (omega (arith, p .below k h))))));
 }
@@ -201,7 +201,7 @@ module _ {b : List ℕ} {ram : PageRange} (fits : Fits b ram) (q j : ℕ) (lo : 
       ∙ entries-same _ m _ _ (λ v. sym (rw find-last-next (choose-map (sectionMapping b q v) (hasPage b v n) (some j) _)))
 
 pub mapped-more : {b : List ℕ} {ram : PageRange} {q m j place : ℕ} {e : List ℕ} → Mapped b ram q m j place e
-    → Fits b ram → 1 ≤ q → q ≤ processCount b
+    → Fits b ram → Walkable b q
     → {first count P : ℕ} {s : Section} {t : Rights} {e′ : List ℕ}
     → first ≡ firstSection b q
     → count ≡ sectionsOf b q
@@ -212,14 +212,14 @@ pub mapped-more : {b : List ℕ} {ram : PageRange} {q m j place : ℕ} {e : List
     → e′ ≡ pagesMapped e m (s .«first_page» .0) (s .«last_page» .0) P t
     → Mapped b ram q m (j + 1) (place + s .pages) e′
 unfolding sectionRecord sectionRights
-mapped-more {b} {ram} {q} {m} {j} {place} {e} t fits lo hi {P = P} {s} f c l is rights a w =
+mapped-more {b} {ram} {q} {m} {j} {place} {e} t fits walk {P = P} {s} f c l is rights a w =
     let next = pages-before-next b q j in
     let pages = rw f at (is .pages-taken) in
     let at-place : place + s .pages ≡ sectionPlace b q + pagesBefore b q (j + 1) = omega (arith, t .at-place) in
     record {
       at-place = at-place;
-      room = omega (arith, section-room fits q (j + 1) lo hi (omega arith));
-      done = w ∙ rw (is .first-page, is .last-page, rights, is .is-writable, is .is-executable, f) (section-over fits q j lo hi (omega arith) m P e (t .done) (rw (t .at-place) at a));
+      room = omega (arith, section-room fits q (j + 1) (walk .low) (walk .high) (omega arith));
+      done = w ∙ rw (is .first-page, is .last-page, rights, is .is-writable, is .is-executable, f) (section-over fits q j (walk .low) (walk .high) (omega arith) m P e (t .done) (rw (t .at-place) at a));
     }
 
 pub mapped-all : {b : List ℕ} {ram : PageRange} {q m j place : ℕ} {e : List ℕ} → Mapped b ram q m j place e → j ≡ sectionsOf b q

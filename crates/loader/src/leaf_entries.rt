@@ -1,16 +1,14 @@
 // The entries of a leaf table. A place counts the uses before a use in the order of pages.
 ghost use mathlib.Core.Bool.{true};
 ghost use mathlib.Core.Path.{_≡_};
-ghost use Prim.Native.Nat.{_≤_};
 ghost use Rattle.notation.specs.Choice.{choose};
 ghost use Rattle.notation.specs.Lists.{tab};
-ghost use Rattle.rules.specs.Block.{processCount};
 ghost use Rattle.rules.specs.Space.{kernelRead, kernelWrite, sectionAtPage, kernelPage, userPage};
 ghost use Rattle.rules.specs.Order.{hasLeaf, trackerPages};
 ghost use Rattle.rules.specs.Tables.{leafEntry};
 ghost use Rattle.rules.specs.Load.{physPage};
 ghost use Rattle.accepted.specs.Fits.{Fits};
-ghost use Rattle.loader.specs.LeafCursor.{Passed};
+ghost use Rattle.loader.specs.LeafCursor.{Walkable, Passed};
 ghost use Rattle.loader.specs.LeafEntries.{entriesOf, rightsOf};
 use crate::leaf_cursor::LeafCursor;
 use block_records::Section;
@@ -57,7 +55,7 @@ fn kernel_rights(write: bool) -> Rights
 
 // Maps the sections of process q in a leaf table whose entries are all absent, from the first that has a page in it to the last.
 fn map_sections(entries: &mut [u32], block: &[u8], range: PageRange, q: u32, leaf: LeafCursor)
-    requires { ⌜ Fits (now block) range × (1 ≤ q) × (q ≤ processCount (now block)) × Passed (now block) q (leaf .slot) (leaf .section) (leaf .place)
+    requires { ⌜ Fits (now block) range × Walkable (now block) q × Passed (now block) q (leaf .slot) (leaf .section) (leaf .place)
         × (now entries ≡ tab 1024 (λ i. 0)) ⌝ }
     ensures { λ _. ⌜ now (entries .exit) ≡ entriesOf (physPage (now (block .entry)) range) (sectionAtPage (now (block .entry)) q) (leaf .slot) ⌝ }
 {
@@ -108,7 +106,7 @@ fn kernel_entries(entries: &mut [u32], block: &[u8], range: PageRange, leaf: Lea
 
 // A user process's leaf table: its sections, and over them the stack reservation.
 fn user_entries(entries: &mut [u32], block: &[u8], range: PageRange, q: u32, leaf: LeafCursor)
-    requires { ⌜ Fits (now block) range × (1 ≤ q) × (q ≤ processCount (now block)) × Passed (now block) q (leaf .slot) (leaf .section) (leaf .place)
+    requires { ⌜ Fits (now block) range × Walkable (now block) q × Passed (now block) q (leaf .slot) (leaf .section) (leaf .place)
         × (now entries ≡ tab 1024 (λ i. 0)) ⌝ }
     ensures { λ _. ⌜ now (entries .exit) ≡ entriesOf (physPage (now (block .entry)) range) (userPage (now (block .entry)) q) (leaf .slot) ⌝ }
 {
@@ -124,7 +122,7 @@ pub(crate) fn leaf_entries(
     q: u32,
     leaf: LeafCursor,
 )
-    requires { ⌜ Fits (now block) range × (1 ≤ q) × (q ≤ processCount (now block)) × (hasLeaf (now block) q (leaf .slot) ≡ true)
+    requires { ⌜ Fits (now block) range × Walkable (now block) q × (hasLeaf (now block) q (leaf .slot) ≡ true)
         × Passed (now block) q (leaf .slot) (leaf .section) (leaf .place) × (now entries ≡ tab 1024 (λ i. 0)) ⌝ }
     ensures { λ _. ⌜ now (entries .exit) ≡ tab 1024 (leafEntry (now (block .entry)) (trackerPages (now (block .entry)) (range .pages)) (physPage (now (block .entry)) range) q (leaf .slot)) ⌝ }
 {

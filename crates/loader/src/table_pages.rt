@@ -1,10 +1,9 @@
 // Root and leaf tables: each is built as 1,024 entries, all absent at first, and stored as one page.
 ghost use mathlib.Core.Path.{_≡_};
 ghost use mathlib.Core.Bool.{true};
-ghost use Prim.Native.Nat.{_+_, _-_, _≤_};
+ghost use Prim.Native.Nat.{_+_, _-_};
 ghost use lib.ListN.{length, getD};
 ghost use Rattle.notation.specs.Lists.{tab, gather};
-ghost use Rattle.rules.specs.Block.{processCount};
 ghost use Rattle.rules.specs.Order.{hasLeaf, tableUses, allTables, trackerPages, leafTable};
 ghost use Rattle.rules.specs.Tables.{rootEntry, leafEntry};
 ghost use Rattle.rules.specs.Load.{physPage, tableByte};
@@ -76,7 +75,7 @@ fn load_root(
 
 // A leaf table of process q into RAM page k.
 fn load_leaf(ram: &mut [u8], k: RamPage, block: &[u8], range: PageRange, q: u32, leaf: LeafCursor)
-    requires { ⌜ Fits (now block) range × (1 ≤ q) × (q ≤ processCount (now block)) × (hasLeaf (now block) q (leaf .slot) ≡ true)
+    requires { ⌜ Fits (now block) range × Walkable (now block) q × (hasLeaf (now block) q (leaf .slot) ≡ true)
         × Passed (now block) q (leaf .slot) (leaf .section) (leaf .place) ⌝ }
     ensures { λ _. ⌜ now (ram .exit) ≡ put (now (ram .entry)) (k .0) (tableByte (leafEntry (now (block .entry)) (trackerPages (now (block .entry)) (range .pages)) (physPage (now (block .entry)) range) q (leaf .slot))) ⌝ }
 {

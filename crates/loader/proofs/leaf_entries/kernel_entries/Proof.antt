@@ -2,7 +2,7 @@ use mathlib.Core.Path.{_∙_}
 use Rattle.notation.specs.Choice.{choose}
 use Rattle.order_places.proofs.Capped.{uncapped}
 use Rattle.page_allocator.proofs.PageAt.{page-inside}
-use Rattle.loader.proofs.LeafEntries.{tracker-room, tracker-some, tracker-end, kernel-is}
+use Rattle.loader.proofs.LeafEntries.{walkable, tracker-room, tracker-some, tracker-end, kernel-is}
 use native.Mathlib.Omega.{arith}
 use borrow.Author.Needs.{needs}
 use Rattle.loader.proofs.leaf_entries.kernel_entries.Statement.{statement}
@@ -38,7 +38,7 @@ page-at-requires-3 c κs = search needs
 map-sections-requires : tie.Need-map-sections-requires
 map-sections-requires c κs =
     let pre = c .before .before .before .before .before .before .before .before .pre in
-    (pre .0, omega arith, pre .0 .some-process, pre .2, pre .3)
+    (pre .0, walkable (pre .0) 1 (omega arith) (pre .0 .some-process), pre .2, pre .3)
 
 kernel-rights-requires : tie.Need-kernel-rights-requires
 kernel-rights-requires c κs = search needs

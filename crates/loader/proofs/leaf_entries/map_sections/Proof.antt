@@ -2,7 +2,7 @@ use mathlib.Core.Path.{_≡_, refl}
 use Prim.Native.Nat.{_-_, _≤_}
 use lib.ListN.{length}
 use Rattle.page_allocator.proofs.PageAt.{page-inside}
-use Rattle.loader.proofs.LeafEntries.{walkable, Mapped, mapped-from, mapped-more, mapped-stop, mapped-all}
+use Rattle.loader.proofs.LeafEntries.{Mapped, mapped-from, mapped-more, mapped-stop, mapped-all}
 use native.Mathlib.Omega.{arith}
 use borrow.Author.Needs.{needs}
 use Rattle.loader.proofs.leaf_entries.map_sections.Statement.{statement}
@@ -21,7 +21,7 @@ read-process-requires c κs = search needs
 loop-holds : tie.Need-loop-holds Inv-loop μ-loop
 loop-holds c =
     let pre = c .before .before .before .pre in
-    (omega (arith, pre .3 .inside, c .read-process .ensures .sections-of), refl, mapped-from (pre .0) (pre .1) (pre .2) (pre .3) (pre .4))
+    (omega (arith, pre .2 .inside, c .read-process .ensures .sections-of), refl, mapped-from (pre .0) (pre .1) (pre .2) (pre .3))
 
 cast-read-section : tie.Need-cast-read-section Inv-loop μ-loop
 cast-read-section c = search needs
@@ -44,7 +44,7 @@ returns c =
     let loop = read .before .before in
     let process = loop .before .read-process .ensures in
     let pre = loop .before .before .before .before .pre in
-    mapped-stop (loop .loop .inv .2) (walkable (pre .0) _ (pre .1) (pre .2)) (process .first-section)
+    mapped-stop (loop .loop .inv .2) (pre .1) (process .first-section)
     (omega (arith, read .before .loop-test .taken, process .sections-of)) (read .read-section .ensures) (c .if1 .taken)
 
 page-at-requires : tie.Need-page-at-requires Inv-loop μ-loop
@@ -81,7 +81,7 @@ loop-again c =
     let pre = loop .before .before .before .before .pre in (
       omega arith,
       omega arith,
-      mapped-more (loop .loop .inv .2) (pre .0) (pre .1) (pre .2) (process .first-section) (process .sections-of) (read .before .loop-test .taken)
+      mapped-more (loop .loop .inv .2) (pre .0) (pre .1) (process .first-section) (process .sections-of) (read .before .loop-test .taken)
           (read .read-section .ensures) (call .before .section-rights .ensures) (page-inside _ _ _ (call .before .before .page-at .ensures) (pre .0 .end)) (call .map-pages .ensures),
     )
 

@@ -9,7 +9,7 @@ slice-aggregate-leaf-entries c = search needs
 leaf-entries-requires : tie.Need-leaf-entries-requires
 leaf-entries-requires c κs =
     let pre = c .before .before .before .pre in
-    (pre .0, pre .1, pre .2, pre .3, pre .4, blank)
+    (pre .0, pre .1, pre .2, pre .3, blank)
 
 slice-aggregate-store : tie.Need-slice-aggregate-store
 slice-aggregate-store c = search needs

@@ -35,7 +35,7 @@ load-leaf-requires : tie.Need-load-leaf-requires Inv-loop μ-loop
 load-leaf-requires c κs =
     let l = c .before .before .before .before in
     let pre = l .before .before .before .before .pre in
-    (pre .0, pre .1 .low, pre .1 .high, l .loop .inv .1 (omega arith), l .loop .inv .2)
+    (pre .0, pre .1, l .loop .inv .1 (omega arith), l .loop .inv .2)
 
 next-leaf-requires : tie.Need-next-leaf-requires Inv-loop μ-loop
 next-leaf-requires c κs =
