@@ -7,7 +7,7 @@ use borrow.Author.Tests.{eqb-true, ltb-false, not-false}
 use Rattle.types.specs.declared.Area.{Area}
 use Rattle.types.specs.declared.PageRange.{PageRange}
 use Rattle.types.specs.declared.Verdict.{Verdict}
-use Rattle.rules.specs.Lent.{Image, endOf, pagesIn}
+use Rattle.rules.specs.Lent.{Image, pagesIn}
 use Rattle.rules.specs.Block.{processCount}
 use Rattle.rules.specs.Order.{pagesNeeded}
 use Rattle.rules.specs.Refusals.{verdict, ramUnfit, outside, countsOutside, countsOutOfBounds, ramTooSmall}

@@ -1,10 +1,10 @@
 -- The sections of a block with no cause of a refusal: each has one owner, lies in its range, and they rise page by page; so a virtual page
 -- is of one section of a process at most.
 use mathlib.Core.Path.{_≡_, sym, ap, _∙_}
-use mathlib.Core.Logic.{_≢_, _⊎_, inl, inr}
+use mathlib.Core.Logic.{_≢_}
 use mathlib.Core.List.{List}
-use mathlib.Core.Bool.{Bool, true, false, not, _&&_}
-use mathlib.Core.Option.{Option, none, some}
+use mathlib.Core.Bool.{true, false, not, _&&_}
+use mathlib.Core.Option.{none, some}
 use Prim.Native.Nat.{ℕ, zero, suc, _+_, _-_, _*_, _/_, _≤_, _<_}
 use native.Mathlib.Decide.{ℕ-discrete, decLt}
 use native.Mathlib.Nat.{not-suc-le-zero}
@@ -12,12 +12,11 @@ use native.Mathlib.Numerals.{add-one}
 use native.Mathlib.Omega.{arith}
 use lib.ListN.{length}
 use lib.Dec.{leb, ltb, eqb}
-use borrow.Author.Tests.{eqb-true, eqb-false, eq-eqb, ne-eqb, leb-true, leb-false, ltb-true, ltb-false, le-leb, lt-ltb, lt-leb, not-false}
+use borrow.Author.Tests.{eqb-true, eqb-false, eq-eqb, ne-eqb, leb-true, leb-false, ltb-true, ltb-false, le-leb, lt-ltb, not-false}
 use Rattle.notation.specs.Choice.{choose}
-use Rattle.notation.specs.Lists.{findLast}
 use Rattle.types.specs.declared.Area.{Area}
 use Rattle.rules.specs.Lent.{Image}
-use Rattle.rules.specs.Block.{stackPages, stackFirst, processCount, sectionCount, processRecord, sectionsOf, firstSection, sectionRecord, address, size, flashOffset, noCopy, writable, executable, sectionEnd, firstPage, lastPage}
+use Rattle.rules.specs.Block.{stackPages, stackFirst, processCount, sectionCount, processRecord, sectionsOf, firstSection, sectionRecord, address, size, flashOffset, noCopy, sectionEnd, firstPage, lastPage}
 use Rattle.rules.specs.Refusals.{sectionsBefore, recordUnfit, processUnfit, sectionUnfit, hasSection, ownerOf, rangeFirst, rangeLast, sectionMisplaced, sectionPastFlash}
 use Rattle.rules.specs.Space.{hasPage, sectionMapping, sectionAtPage}
 use Rattle.laws.specs.Choice.{false-not-true, by-test, choose-yes, choose-lt, and-both, and-left, and-right, and-rest, any-none}

@@ -21,7 +21,7 @@ use Rattle.block_records.specs.Read.{IsSection}
 use Rattle.block_records.specs.declared.Section.{Section}
 use Rattle.rules.specs.Block.{processCount, stackPages, sectionsOf, sectionRecord, firstSection, firstPage, lastPage, pageCount}
 use Rattle.rules.specs.Space.{Data, sectionPage, trackerPage, processList, blockCopy, Mapping, stack, maps, sectionRights, kernelRead, kernelWrite, hasPage, sectionMapping, sectionAtPage, inTracker, kernelPage, inStack, userPage, mappingAt}
-use Rattle.rules.specs.Order.{Use, holds, pagesTaken, hasLeaf, pagesFor, trackerPages, uses, pagesNeeded}
+use Rattle.rules.specs.Order.{Use, holds, pagesTaken, pagesFor, trackerPages, uses, pagesNeeded}
 use Rattle.rules.specs.Entries.{absentEntry, reservedEntry, pageEntry}
 use Rattle.rules.specs.Tables.{entryFor, leafEntry}
 use Rattle.laws.specs.Counts.{sum-le}

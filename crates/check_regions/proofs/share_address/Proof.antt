@@ -1,5 +1,5 @@
-use borrow.Author.Needs.{needs}
 use Rattle.rules.specs.Lent.{shareAddress}
+use borrow.Author.Needs.{needs}
 use Rattle.check_regions.proofs.share_address.Statement.{statement}
 use Rattle.check_regions.proofs.share_address.Tie as tie
 

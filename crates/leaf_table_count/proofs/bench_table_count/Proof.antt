@@ -1,7 +1,7 @@
 use mathlib.Core.Path.{sym, _∙_}
-use borrow.Author.Needs.{needs}
 use borrow.Author.Tests.{lt-ltb, le-ltb}
 use Rattle.laws.specs.Choice.{choose-yes, choose-no}
+use borrow.Author.Needs.{needs}
 use Rattle.leaf_table_count.proofs.bench_table_count.Statement.{statement}
 use Rattle.leaf_table_count.proofs.bench_table_count.Tie as tie
 

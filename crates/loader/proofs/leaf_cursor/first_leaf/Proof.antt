@@ -1,5 +1,5 @@
-use borrow.Author.Needs.{needs}
 use Rattle.loader.proofs.LeafCursor.{passed-none}
+use borrow.Author.Needs.{needs}
 use Rattle.loader.proofs.leaf_cursor.first_leaf.Statement.{statement}
 use Rattle.loader.proofs.leaf_cursor.first_leaf.Tie as tie
 

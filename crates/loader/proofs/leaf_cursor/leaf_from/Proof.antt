@@ -1,8 +1,8 @@
-use native.Mathlib.Omega.{arith}
-use borrow.Author.Needs.{needs}
 use Prim.Native.Nat.{_-_}
 use Rattle.loader.specs.LeafCursor.{Passed}
 use Rattle.loader.proofs.LeafCursor.{leaf-found, leaf-own, passed-room, passed-more}
+use native.Mathlib.Omega.{arith}
+use borrow.Author.Needs.{needs}
 use Rattle.loader.proofs.leaf_cursor.leaf_from.Statement.{statement}
 use Rattle.loader.proofs.leaf_cursor.leaf_from.Tie as tie
 

@@ -1,6 +1,6 @@
+use Rattle.loader.proofs.LeafCursor.{passed-later}
 use native.Mathlib.Omega.{arith}
 use borrow.Author.Needs.{needs}
-use Rattle.loader.proofs.LeafCursor.{passed-later}
 use Rattle.loader.proofs.leaf_cursor.next_leaf.Statement.{statement}
 use Rattle.loader.proofs.leaf_cursor.next_leaf.Tie as tie
 

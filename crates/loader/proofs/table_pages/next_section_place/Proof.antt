@@ -1,7 +1,6 @@
-use native.Mathlib.Omega.{arith}
-use borrow.Author.Needs.{needs}
 use mathlib.Core.Path.{sym}
 use Rattle.loader.proofs.LeafEntries.{first-user-place, next-user-place}
+use borrow.Author.Needs.{needs}
 use Rattle.loader.proofs.table_pages.next_section_place.Statement.{statement}
 use Rattle.loader.proofs.table_pages.next_section_place.Tie as tie
 
