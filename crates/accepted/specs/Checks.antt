@@ -173,10 +173,14 @@ all-accepted top cs v (inr d) ps = absurd (never top cs v d ps)
 pub all-checks-accepted : (top : ℕ) (cs : List Check) → Every (Numbered top) cs → Every Passes cs → firstRefusal cs ≡ accepted
 all-checks-accepted top cs ns = all-accepted top cs _ (decided top cs ns)
 
--- THE VERDICT: number 0 exactly where every check passes; else the first cause
+-- THE VERDICT: number 0, and then place 0, exactly where every check passes; else the first cause
 pub verdict-passes : (x : Image) (ram : Area) → (verdict x ram .number ≡ 0) ↔ Every Passes (checks x ram)
 unfolding verdict
 verdict-passes x ram = all-checks-pass 12 (checks x ram) (numbered x ram)
+
+pub verdict-accepted : (x : Image) (ram : Area) → verdict x ram .number ≡ 0 → verdict x ram ≡ accepted
+unfolding verdict
+verdict-accepted x ram e = all-checks-accepted 12 (checks x ram) (numbered x ram) (verdict-passes x ram .0 e)
 
 pub verdict-refuses : (x : Image) (ram : Area) → verdict x ram .number ≢ 0
     → (1 ≤ verdict x ram .number) × (verdict x ram .number ≤ 12) × FirstCause (checks x ram) (verdict x ram .number) (verdict x ram .place)

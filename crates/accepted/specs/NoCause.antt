@@ -13,11 +13,11 @@ use Rattle.types.specs.declared.Answer.{Answer}
 use Rattle.rules.specs.Lent.{Image, Ram, ramArea, pagesIn}
 use Rattle.rules.specs.Block.{processCount, sectionCount, regionCount}
 use Rattle.rules.specs.Refusals.{ramUnfit, blockTooShort, formatUnknown, countsOutOfBounds, layoutNotTight, processUnfit, sectionUnfit, sectionMisplaced, sectionPastFlash}
-use Rattle.rules.specs.Refusals.{entryPointOutside, regionUnfit, ramTooSmall, sectionRefusal, lentChecks, headerChecks, processChecks, blockChecks, contentChecks, checks, verdict}
+use Rattle.rules.specs.Refusals.{entryPointOutside, regionUnfit, ramTooSmall, refused, accepted, sectionRefusal, lentChecks, headerChecks, processChecks, blockChecks, contentChecks, checks, verdict}
 use Rattle.rules.specs.Load.{boots, bootAnswer, refusalAnswer, answerOn}
 use Rattle.laws.specs.Choice.{by-choose}
 use Rattle.laws.specs.Lists.{Every}
-use Rattle.accepted.specs.Checks.{Passes, verdict-passes}
+use Rattle.accepted.specs.Checks.{Passes, verdict-passes, verdict-accepted}
 
 -- 1 to 12
 pub record NoCause (x : Image) (ram : Area) : Type 0 where
@@ -73,8 +73,14 @@ pub booted : (x : Image) (r : Ram) → boots x r ≡ true → NoCause x (ramArea
 unfolding boots
 booted x r e = no-cause x (ramArea r) (eqb-true (verdict x (ramArea r) .number) 0 e)
 
--- the number of an answer is that of the verdict
-pub answer-number : (x : Image) (ram : Area) → answerOn x ram .number ≡ verdict x ram .number
-unfolding answerOn bootAnswer refusalAnswer
-answer-number x ram = by-choose (λ (a : Answer). a .number ≡ verdict x ram .number) (eqb (verdict x ram .number) 0) _ _
-    (λ e. sym (eqb-true (verdict x ram .number) 0 e)) (λ _. refl)
+-- number and place of an answer are those of the verdict
+module _ (x : Image) (ram : Area) where
+  pub answer-number : answerOn x ram .number ≡ verdict x ram .number
+  unfolding answerOn bootAnswer refusalAnswer
+  answer-number = by-choose (λ (a : Answer). a .number ≡ verdict x ram .number) (eqb (verdict x ram .number) 0) _ _
+      (λ e. sym (eqb-true (verdict x ram .number) 0 e)) (λ _. refl)
+
+  pub answer-place : answerOn x ram .place ≡ verdict x ram .place
+  unfolding answerOn bootAnswer refusalAnswer refused accepted
+  answer-place = by-choose (λ (a : Answer). a .place ≡ verdict x ram .place) (eqb (verdict x ram .number) 0) _ _
+      (λ e. rw (verdict-accepted x ram (eqb-true (verdict x ram .number) 0 e))) (λ _. refl)

@@ -1,2 +1,3 @@
 pub mod Verdicts
 pub mod Needed
+pub mod Answers

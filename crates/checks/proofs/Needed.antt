@@ -1,26 +1,33 @@
 -- The pages needed, by the place after all tables.
-use mathlib.Core.Path.{_≡_, _∙_}
+use mathlib.Core.Path.{_≡_}
+use mathlib.Core.Bool.{true, false}
 use mathlib.Core.List.{List}
-use Prim.Native.Nat.{ℕ, _+_, _≤_, _<_, min}
-use native.Mathlib.Decide.{decLt}
+use Prim.Native.Nat.{ℕ, _+_, _≤_, _<_}
 use native.Mathlib.Omega.{arith}
-use lib.Dec.{ltb}
 use borrow.Author.Tests.{lt-ltb, le-ltb}
 use Rattle.rules.specs.Block.{processCount}
-use Rattle.rules.specs.Order.{trackerPages}
+use Rattle.rules.specs.Order.{trackerPages, pagesNeeded}
 use Rattle.rules.specs.Refusals.{ramTooSmall}
 use Rattle.order_laws.specs.Places.{rootPlace}
-use Rattle.order_laws.specs.Room.{needed-place}
+use Rattle.order_laws.specs.Room.{needed-parts, needed-place}
 use Rattle.order_places.specs.Capped.{capped}
 
--- the cap changes no comparison with a smaller number
-below-capped : (n m : ℕ) → n < 0x1_0000 → ltb n (capped m) ≡ ltb n m
-below-capped n m h = elim (decLt n m) [
-  | yes l ↦ rw (lt-ltb n m l, lt-ltb n (min m 0x1_0000) (omega arith))
-  | no l ↦ rw (le-ltb n m (omega arith), le-ltb n (min m 0x1_0000) (omega arith))
-]
+module _ (b : List ℕ) (N p place : ℕ) (c : p ≡ processCount b) (e : place ≡ capped (rootPlace b (trackerPages b N) (p + 1))) where
+  place-is : place ≡ capped (pagesNeeded b N)
+  place-is = rw (e, c, needed-place b N)
 
-pub too-small-is : (b : List ℕ) (N p place : ℕ) → N ≤ 4096 → p ≡ processCount b → place ≡ capped (rootPlace b (trackerPages b N) (p + 1))
-    → ltb N place ≡ ramTooSmall b N
-unfolding ramTooSmall
-too-small-is b N p place h c e = rw (e, c) (below-capped N _ (omega arith) ∙ rw (← needed-place b N))
+  pub too-small : N < place → ramTooSmall b N ≡ true
+  unfolding ramTooSmall
+  too-small h = lt-ltb N (pagesNeeded b N) (omega (arith, place-is))
+
+  -- RAM that has as many pages, and no more than 01 lets it have
+  module _ (l : N ≤ 4096) (h : place ≤ N) where
+    pub place-needed : place ≡ pagesNeeded b N
+    place-needed = omega (arith, place-is)
+
+    pub room-enough : ramTooSmall b N ≡ false
+    unfolding ramTooSmall
+    room-enough = le-ltb N (pagesNeeded b N) (omega (arith, place-needed))
+
+    pub tracker-few : trackerPages b N ≤ 4096
+    tracker-few = omega (arith, place-needed, needed-parts b N)

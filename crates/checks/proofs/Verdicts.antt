@@ -1,6 +1,6 @@
 -- Laws of the verdict.
-use mathlib.Core.Path.{_≡_, _∙_}
-use mathlib.Core.List.{List, [], _∷_, append-assoc}
+use mathlib.Core.Path.{_≡_, refl}
+use mathlib.Core.List.{List, [], _∷_, _++_}
 use Prim.Native.Nat.{ℕ, _/_, _≤_}
 use native.Mathlib.Omega.{arith}
 use borrow.Author.Tests.{ltb-false}
@@ -11,7 +11,7 @@ use Rattle.types.specs.declared.Area.{Area}
 use Rattle.types.specs.declared.Verdict.{Verdict}
 use Rattle.rules.specs.Lent.{Image, pagesIn}
 use Rattle.rules.specs.Block.{processCount}
-use Rattle.rules.specs.Refusals.{ramUnfit, outside, countsOutside, countsOutOfBounds, ramTooSmall, refused, accepted, firstRefusal}
+use Rattle.rules.specs.Refusals.{Check, whole, ramUnfit, outside, countsOutside, countsOutOfBounds, ramTooSmall, refused, accepted, firstRefusal}
 use Rattle.rules.specs.Refusals.{lentChecks, headerChecks, processChecks, blockChecks, contentChecks, checks, verdict}
 use Rattle.accepted.specs.InOrder.{firstOf, first-of-both, step, one-whole, whole-not-given}
 use Rattle.checks.specs.declared.Scan.the-variants.{Processes, Sections, EntryPoints, Regions}
@@ -22,16 +22,31 @@ module _ (x : Image) (ram : Area) where
       ≡ firstOf (firstRefusal (scanOf Processes x ram ∷ []))
       (firstOf (firstRefusal (scanOf Sections x ram ∷ []))
       (firstOf (firstRefusal (scanOf EntryPoints x ram ∷ []))
-      (firstOf (firstRefusal (scanOf Regions x ram ∷ []))
-      (choose (ramTooSmall (x .block) (pagesIn ram .pages)) (refused 12 0) accepted))))
-  unfolding recordChecks processChecks contentChecks recordCount refusalAt
-  records-then = step _ _ _ tt (step _ _ _ tt (step _ _ _ tt (step _ _ _ tt (one-whole 12 _))))
+      (firstRefusal (scanOf Regions x ram ∷ []))))
+  unfolding recordChecks
+  records-then = step _ _ _ tt (step _ _ _ tt (step _ _ _ tt refl))
 
-  pub verdict-then : verdict x ram ≡ firstOf (firstRefusal (lentChecks ram)) (firstOf (firstRefusal (headerChecks (x .block))) (firstRefusal (recordChecks x ram)))
-  unfolding verdict checks blockChecks recordChecks
-  verdict-then =
-      first-of-both (lentChecks ram) _ (unfold lentChecks in (omega arith) and tt)
-      ∙ rw (append-assoc (headerChecks (x .block)) (processChecks (x .block)) (contentChecks x ram), first-of-both (headerChecks (x .block)) _ (unfold headerChecks in (omega arith) and (omega arith) and (omega arith) and (omega arith) and tt))
+  -- 12, and the verdict on it alone
+  abbrev twelve : Check
+  twelve = whole 12 (ramTooSmall (x .block) (pagesIn ram .pages))
+
+  abbrev pub room : Verdict
+  room = choose (ramTooSmall (x .block) (pagesIn ram .pages)) (refused 12 0) accepted
+
+  parted : checks x ram ≡ lentChecks ram ++ (headerChecks (x .block) ++ (recordChecks x ram ++ (twelve ∷ [])))
+  unfolding checks lentChecks headerChecks processChecks blockChecks contentChecks recordChecks recordCount refusalAt
+  parted = refl
+
+  pub verdict-then : verdict x ram
+      ≡ firstOf (firstRefusal (lentChecks ram)) (firstOf (firstRefusal (headerChecks (x .block))) (firstOf (firstRefusal (recordChecks x ram)) room))
+  unfolding verdict
+  verdict-then = rw (
+    parted,
+    first-of-both (lentChecks ram) _ (unfold lentChecks in (omega arith) and tt),
+    first-of-both (headerChecks (x .block)) _ (unfold headerChecks in (omega arith) and (omega arith) and (omega arith) and (omega arith) and tt),
+    first-of-both (recordChecks x ram) _ (unfold recordChecks in tt and tt and tt and tt and tt),
+    one-whole 12 _,
+  )
 
 -- WHAT REFUSALS 1 AND 4 LEAVE, as far as later sums need it
 pub few-pages : (ram : Area) (v : Verdict) → v ≡ firstRefusal (lentChecks ram) → v .number ≡ 0 → ram .length / 4096 ≤ 4096

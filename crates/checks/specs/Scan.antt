@@ -1,12 +1,12 @@
 -- The checks that go record by record.
-use mathlib.Core.List.{List, _++_}
+use mathlib.Core.List.{List, [], _∷_}
 use Prim.Native.Nat.{ℕ}
 use lib.ListN.{length}
 use Rattle.notation.specs.Choice.{choose}
 use Rattle.types.specs.declared.Area.{Area}
 use Rattle.rules.specs.Lent.{Image}
 use Rattle.rules.specs.Block.{processCount, sectionCount, regionCount}
-use Rattle.rules.specs.Refusals.{Check, records, processUnfit, sectionRefusal, entryPointOutside, regionUnfit, processChecks, contentChecks}
+use Rattle.rules.specs.Refusals.{Check, records, processUnfit, sectionRefusal, entryPointOutside, regionUnfit}
 use Rattle.checks.specs.declared.Scan.{Scan}
 use Rattle.checks.specs.declared.Scan.the-variants.{Processes, Sections, EntryPoints, Regions}
 
@@ -28,6 +28,6 @@ refusalAt Regions x ram i = choose (regionUnfit (x .block) ram i) 11 0
 abbrev pub scanOf : Scan → Image → Area → Check
 scanOf scan x ram = records (recordCount scan (x .block)) (refusalAt scan x ram)
 
--- the checks that come after those of the header: 6 to 12
+-- 6 to 11
 unfoldable pub recordChecks : Image → Area → List Check
-recordChecks x ram = processChecks (x .block) ++ contentChecks x ram
+recordChecks x ram = scanOf Processes x ram ∷ scanOf Sections x ram ∷ scanOf EntryPoints x ram ∷ scanOf Regions x ram ∷ []

@@ -1,13 +1,16 @@
-// All of 01's refusals: the first in 01's order that is given. What is lent here is only read.
+// The answer to a load: the first of 01's refusals, in 01's order, that is given, or the counts of pages. What is lent here is only read.
+use types::Answer;
 use types::Area;
 use types::Verdict;
 ghost use mathlib.Core.List.{[], _∷_};
 ghost use mathlib.Core.Path.{_≡_};
-ghost use Prim.Native.Nat.{_/_, _≤_};
+ghost use Prim.Native.Nat.{_≤_};
 ghost use Rattle.rules.specs.Lent.{imageOf, areaOf};
 ghost use Rattle.rules.specs.Block.{processCount};
-ghost use Rattle.rules.specs.Refusals.{ramTooSmall, refused, firstRefusal, lentChecks, headerChecks, verdict};
+ghost use Rattle.rules.specs.Refusals.{refused, firstRefusal, lentChecks, headerChecks, verdict};
+ghost use Rattle.rules.specs.Load.{refusalAnswer, answerOn};
 ghost use Rattle.checks.specs.Scan.{recordCount, refusalAt, scanOf, recordChecks};
+ghost use Rattle.checks.specs.Room.{roomAnswer};
 
 // A verdict; `refused(0, 0)` is the one that boots.
 fn refused(number: u32, place: u32) -> Verdict
@@ -64,14 +67,6 @@ fn scan_refusal(scan: Scan, block: &[u8], flash: &[u8], ram: Area) -> Verdict
     refused(0, 0)
 }
 
-// Refusal 12, for RAM of `pages` pages: the pages needed are the place after all tables.
-fn ram_too_small(block: &[u8], pages: u32) -> bool
-    requires { ⌜ (pages ≤ 4096) × (processCount (now block) ≤ 16) ⌝ }
-    ensures { λ r. ⌜ r ≡ ramTooSmall (now (block .entry)) pages ⌝ }
-{
-    pages < order_places::root_place(block, pages, block_header::process_count(block) + 1)
-}
-
 // Refusal 1, for RAM of `ram` bytes from `start` on.
 fn lent_refusal(start: u32, ram: usize) -> Verdict
     ensures { λ r. ⌜ r ≡ firstRefusal (lentChecks (areaOf start ram)) ⌝ }
@@ -101,9 +96,8 @@ fn header_refusal(block: &[u8]) -> Verdict
     refused(0, 0)
 }
 
-// Refusals 6 to 12, in order, where 1 and 4 are not given.
+// Refusals 6 to 11, in order.
 fn record_refusal(block: &[u8], flash: &[u8], ram: Area) -> Verdict
-    requires { ⌜ (ram .length / 4096 ≤ 4096) × (processCount (now block) ≤ 16) ⌝ }
     ensures { λ r. ⌜ r ≡ firstRefusal (recordChecks (imageOf (now (block .entry)) (now (flash .entry))) ram) ⌝ }
 {
     let process = scan_refusal(Scan::Processes, block, flash, ram);
@@ -118,34 +112,70 @@ fn record_refusal(block: &[u8], flash: &[u8], ram: Area) -> Verdict
     if entry_point.number != 0 {
         return entry_point;
     }
-    let region = scan_refusal(Scan::Regions, block, flash, ram);
-    if region.number != 0 {
-        return region;
-    }
-    if ram_too_small(block, ram.length / 4096) {
-        return refused(12, 0);
-    }
-    refused(0, 0)
+    scan_refusal(Scan::Regions, block, flash, ram)
 }
 
-// 01's verdict on a block, a flash image, and RAM of `ram` bytes from `start` on.
-pub fn check(block: &[u8], flash: &[u8], start: u32, ram: usize) -> Verdict
-    ensures { λ r. ⌜ r ≡ verdict (imageOf (now (block .entry)) (now (flash .entry))) (areaOf start ram) ⌝ }
+// The answer that a refusal gives.
+fn refusal(verdict: Verdict) -> Answer
+    ensures { λ r. ⌜ r ≡ refusalAnswer verdict ⌝ }
+{
+    Answer {
+        number: verdict.number,
+        place: verdict.place,
+        taken: 0,
+        free: 0,
+        tracker: 0,
+    }
+}
+
+// The answer where 1 to 11 are not given, for RAM of `pages` pages: refusal 12, or a boot. The pages needed are the place after all
+// tables.
+fn room_answer(block: &[u8], pages: u32) -> Answer
+    requires { ⌜ (pages ≤ 4096) × (processCount (now block) ≤ 16) ⌝ }
+    ensures { λ r. ⌜ r ≡ roomAnswer (now (block .entry)) pages ⌝ }
+{
+    let needed = order_places::root_place(block, pages, block_header::process_count(block) + 1);
+    if pages < needed {
+        return refusal(refused(12, 0));
+    }
+    let tracker = order_tracker::tracker_pages(block, pages) as u32;
+    Answer {
+        number: 0,
+        place: 0,
+        taken: needed,
+        free: pages - needed,
+        tracker,
+    }
+}
+
+// The answer to a load into RAM of `ram` bytes from `start` on: number, place, pages taken, pages free and tracker pages; in a
+// refusal the three counts are 0.
+pub fn answer_on(block: &[u8], flash: &[u8], start: u32, ram: usize) -> Answer
+    ensures { λ r. ⌜ r ≡ answerOn (imageOf (now (block .entry)) (now (flash .entry))) (areaOf start ram) ⌝ }
 {
     let lent = lent_refusal(start, ram);
     if lent.number != 0 {
-        return lent;
+        return refusal(lent);
     }
     let header = header_refusal(block);
     if header.number != 0 {
-        return header;
+        return refusal(header);
     }
-    record_refusal(
-        block,
-        flash,
-        Area {
-            start,
-            length: ram as u32,
-        },
-    )
+    let area = Area {
+        start,
+        length: ram as u32,
+    };
+    let record = record_refusal(block, flash, area);
+    if record.number != 0 {
+        return refusal(record);
+    }
+    room_answer(block, area.length / 4096)
+}
+
+// 01's verdict on a block, a flash image, and RAM of `ram` bytes from `start` on: number and place of the answer.
+pub fn check(block: &[u8], flash: &[u8], start: u32, ram: usize) -> Verdict
+    ensures { λ r. ⌜ r ≡ verdict (imageOf (now (block .entry)) (now (flash .entry))) (areaOf start ram) ⌝ }
+{
+    let answer = answer_on(block, flash, start, ram);
+    refused(answer.number, answer.place)
 }

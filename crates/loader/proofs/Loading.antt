@@ -1,36 +1,25 @@
 -- All pages, part by part.
-use mathlib.Core.Path.{_≡_, refl, sym, _∙_}
+use mathlib.Core.Path.{_≡_, refl, _∙_}
 use mathlib.Core.List.{List, [], _∷_, _++_, append-assoc}
 use Prim.Native.Nat.{ℕ, _+_, _-_, _*_, _/_, _≤_}
 use native.Mathlib.Omega.{arith}
 use lib.ListN.{length, getD}
 use Rattle.types.specs.declared.PageRange.{PageRange}
 use Rattle.rules.specs.Lent.{Image, Ram, ramArea, pagesIn}
-use Rattle.rules.specs.Block.{processCount}
 use Rattle.rules.specs.Space.{processList, blockCopy}
-use Rattle.rules.specs.Order.{Use, holds, allSections, trackerUses, allTables, belowTop, uses, trackerPages, pagesNeeded}
+use Rattle.rules.specs.Order.{holds, allSections, trackerUses, allTables, belowTop, uses, trackerPages, pagesNeeded}
 use Rattle.rules.specs.Contents.{processListByte, dataByte}
 use Rattle.rules.specs.Load.{satpWord, pageByte, loaded}
 use Rattle.order_laws.specs.Places.{trackerPlace, rootPlace, tracker-uses-length, all-sections-length, tables-before-none}
-use Rattle.order_laws.specs.Room.{needed-place}
-use Rattle.order_places.specs.Capped.{capped}
-use Rattle.order_places.proofs.Capped.{uncapped}
 use Rattle.writing.specs.Pages.{put}
 use Rattle.writing.specs.Uses.{Wrote, wrote-page, wrote-then}
 use Rattle.writing.specs.Loaded.{content, below-top-length, written-is-loaded, sectionContent, wrote-sections, WroteAny}
-use Rattle.accepted.specs.Fits.{Whole, Fits, Accepted}
+use Rattle.accepted.specs.Fits.{Accepted}
 
 -- PLACES AFTER EACH PART
 pub needed-four : (b : List ℕ) (N : ℕ) → 4 ≤ pagesNeeded b N
 unfolding pagesNeeded uses
 needed-four b N = omega (arith, below-top-length b (trackerPages b N))
-
--- the pages needed, as the place after all tables
-pub counted : (b : List ℕ) (ram : PageRange) (p needed : ℕ) → Fits b ram → p ≡ processCount b
-    → needed ≡ capped (rootPlace b (trackerPages b (ram .pages)) (p + 1)) → needed ≡ pagesNeeded b (ram .pages)
-counted b ram p needed f e d =
-    let s : rootPlace b (trackerPages b (ram .pages)) (p + 1) ≡ pagesNeeded b (ram .pages) = rw e (sym (needed-place b (ram .pages))) in
-    uncapped _ needed d (omega (arith, f .enough, f .few-pages)) ∙ s
 
 module _ (x : Image) (ram : PageRange) {r₀ r₁ r₂ : List ℕ} {n₁ n₂ : ℕ}
     (w₁ : Wrote (sectionContent x) (allSections (x .block)) r₀ (ram .pages - 4) r₁ n₁)

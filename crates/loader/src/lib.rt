@@ -4,7 +4,7 @@ ghost use Prim.Native.Nat.{_-_, _/_};
 ghost use lib.ListN.{length, getD};
 ghost use Rattle.rules.specs.Lent.{imageOf, ramOf, areaOf};
 ghost use Rattle.rules.specs.Order.{pagesNeeded};
-ghost use Rattle.rules.specs.Load.{loaded, answerOn, answer, ramAfter};
+ghost use Rattle.rules.specs.Load.{loaded, answer, ramAfter};
 ghost use Rattle.writing.specs.Pages.{put};
 ghost use Rattle.accepted.specs.Fits.{Accepted};
 use page_allocator::PageAllocator;
@@ -50,40 +50,12 @@ fn load_pages(block: &[u8], flash: &[u8], ram: &mut [u8], start: u32, needed: u3
     table_pages::load_tables(ram, block, range, after_copy);
 }
 
-// The answer to a load into RAM of `ram` bytes from `start` on: number, place, pages taken, pages free and tracker pages; in a
-// refusal the three counts are 0.
-pub fn answer_on(block: &[u8], flash: &[u8], start: u32, ram: usize) -> Answer
-    ensures { λ r. ⌜ r ≡ answerOn (imageOf (now (block .entry)) (now (flash .entry))) (areaOf start ram) ⌝ }
-{
-    let verdict = checks::check(block, flash, start, ram);
-    if verdict.number != 0 {
-        return Answer {
-            number: verdict.number,
-            place: verdict.place,
-            taken: 0,
-            free: 0,
-            tracker: 0,
-        };
-    }
-    let pages = (ram / 4096) as u32;
-    let tracker = order_tracker::tracker_pages(block, pages) as u32;
-    // The place after all tables.
-    let taken = order_places::root_place(block, pages, block_header::process_count(block) + 1);
-    Answer {
-        number: 0,
-        place: 0,
-        taken,
-        free: pages - taken,
-        tracker,
-    }
-}
-
 // Loads the block's programs from flash into RAM that starts at physical address `start`, or refuses and leaves RAM as it came.
 pub fn load(block: &[u8], flash: &[u8], ram: &mut [u8], start: u32) -> Answer
     ensures { λ r. ⌜ (r ≡ answer (imageOf (now (block .entry)) (now (flash .entry))) (ramOf start (now (ram .entry))))
         × (now (ram .exit) ≡ ramAfter (imageOf (now (block .entry)) (now (flash .entry))) (ramOf start (now (ram .entry)))) ⌝ }
 {
-    let full = answer_on(block, flash, start, ram.len());
+    let full = checks::answer_on(block, flash, start, ram.len());
     if full.number != 0 {
         return full;
     }

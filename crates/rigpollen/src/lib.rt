@@ -80,7 +80,7 @@ pub extern "C" fn rigpollen_check(
     ensures { λ r. ⌜ (r ≡ answerOn (imageOf (now (block .entry)) (now (flash .entry))) (areaOf «ram_start» «ram_length») .number)
         × (now (answer .exit) ≡ sets (now (answer .entry)) 0 (answerWords (answerOn (imageOf (now (block .entry)) (now (flash .entry))) (areaOf «ram_start» «ram_length»)))) ⌝ }
 {
-    let full = loader::answer_on(block, flash, ram_start, ram_length);
+    let full = checks::answer_on(block, flash, ram_start, ram_length);
     tell_answer(full, answer);
     full.number
 }
