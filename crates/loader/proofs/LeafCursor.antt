@@ -29,7 +29,7 @@ own-user : (q : ℕ) → q ≢ 1 → ownSlot q ≡ 511
 unfolding ownSlot
 own-user q n = choose-no _ _ (ne-eqb q 1 n)
 
-own-inside : (q : ℕ) → ownSlot q < 1024
+pub own-inside : (q : ℕ) → ownSlot q < 1024
 unfolding ownSlot
 own-inside q = choose-lt (eqb q 1) 1023 511 1024 (omega arith) (omega arith)
 
@@ -75,14 +75,14 @@ pub passed-later : {b : List ℕ} {q m j place : ℕ} (n : ℕ) → Passed b q m
 passed-later n p h = record { inside = p .inside; below = λ k a. omega (arith, p .below k a); at-place = p .at-place }
 
 -- WHICH LEAF TABLES THERE ARE
-module _ {b : List ℕ} {q : ℕ} (w : Walkable b q) where
-  own-leaf : hasLeaf b q (ownSlot q) ≡ true
-  unfolding hasLeaf
-  own-leaf = elim (ℕ-discrete q 1) [
-    | yes e ↦ choose-yes _ _ (eq-eqb q 1 e) ∙ eq-eqb (ownSlot q) 1023 (own-kernel q e)
-    | no e ↦ choose-no _ _ (ne-eqb q 1 e) ∙ choose-yes _ _ (eq-eqb (ownSlot q) 511 (own-user q e))
-  ]
+pub own-leaf : (b : List ℕ) (q : ℕ) → hasLeaf b q (ownSlot q) ≡ true
+unfolding hasLeaf
+own-leaf b q = elim (ℕ-discrete q 1) [
+  | yes e ↦ choose-yes _ _ (eq-eqb q 1 e) ∙ eq-eqb (ownSlot q) 1023 (own-kernel q e)
+  | no e ↦ choose-no _ _ (ne-eqb q 1 e) ∙ choose-yes _ _ (eq-eqb (ownSlot q) 511 (own-user q e))
+]
 
+module _ {b : List ℕ} {q : ℕ} (w : Walkable b q) where
   section-leaf : (j k : ℕ) → j < sectionsOf b q → from b q j ≤ k → k ≤ to b q j → hasLeaf b q k ≡ true
   unfolding hasLeaf
   section-leaf j k h f t = elim (ℕ-discrete q 1) [
@@ -156,7 +156,7 @@ module _ {b : List ℕ} {q : ℕ} (w : Walkable b q) where
             low = omega arith;
             high = omega (arith, own-inside q);
             before = λ k a z. no-leaf k (λ x. omega arith) (none k a);
-            here = λ _. rw (at-own, own) own-leaf;
+            here = λ _. rw (at-own, own) (own-leaf b q);
           };
           passed = passed-later r p (omega arith);
         }

@@ -1,6 +1,5 @@
 -- The pages of root and leaf tables, written.
 use mathlib.Core.Path.{_≡_, refl, sym, ap, _∙_}
-use mathlib.Core.Logic.{_≢_}
 use mathlib.Core.Bool.{true, false}
 use mathlib.Core.List.{List, [], _∷_, append-nil}
 use Prim.Native.Nat.{ℕ, zero, suc, _+_, _-_, _*_, _/_, _%_, _≤_, _<_, min}
@@ -12,7 +11,7 @@ use lib.Seq.{getD-set-same, getD-set-other}
 use borrow.Author.Tests.{eq-eqb, ne-eqb, lt-ltb}
 use borrow.Rule.Slice.PartMut.{putMid, midOf, mid-len}
 use Rattle.notation.specs.Choice.{choose}
-use Rattle.notation.specs.Lists.{tab, gather}
+use Rattle.notation.specs.Lists.{tab, gather, sum}
 use Rattle.types.specs.declared.PageRange.{PageRange}
 use Rattle.rules.specs.Block.{processCount}
 use Rattle.rules.specs.Order.{Use, rootTable, leafTable, hasLeaf, tableUses, allTables, trackerPages, ramPage}
@@ -31,8 +30,11 @@ use Rattle.writing.specs.Pages.{put, put-part, put-same}
 use Rattle.writing.specs.Uses.{wrote-page}
 use Rattle.writing.specs.Loaded.{content, WroteAny, wrote-any, any-then}
 use Rattle.accepted.specs.Fits.{Fits}
+use Rattle.accepted.specs.Sections.{ownSlot}
+use Rattle.order_leaves.proofs.TakenSlots.{sum-span}
 use Rattle.loader.specs.LeafCursor.{First}
 use Rattle.loader.specs.TablePages.{leafUses, leafPointer, LeavesAt}
+use Rattle.loader.proofs.LeafCursor.{own-inside, own-leaf}
 
 -- a page of at most 4,096 bytes with 1,024 words stored in it
 table-stored : (d ws : List ℕ) → length ws ≡ 1024 → length d ≤ 4096 → withWords d ws ≡ tab (length d) (tableByte (λ i. getD ws i 0))
@@ -94,10 +96,11 @@ pub record Pointing (b : List ℕ) (q first : ℕ) (d₀ d : List ℕ) (page m :
 
 -- no leaves from slot m up to the next one's
 below-skip : (b : List ℕ) (q a d : ℕ) → ((k : ℕ) → a ≤ k → k < a + d → hasLeaf b q k ≡ false) → leavesBelow b q (a + d) ≡ leavesBelow b q a
-below-skip b q a zero h = let e : a + 0 ≡ a = omega arith in rw e
-below-skip b q a (suc d) h =
-    let e : a + suc d ≡ a + d + 1 = omega arith in
-    rw e (omega (arith, leaves-below-next b q (a + d), one-no (h (a + d) (omega arith) (omega arith)), below-skip b q a d (λ k l m. h k l (omega arith))))
+unfolding leavesBelow
+below-skip b q a d h =
+    let f : ℕ → ℕ = λ k. one (hasLeaf b q k) in
+    let s : sum (a + d) f ≡ sum a f + d * 0 = sum-span f 0 a d (λ k l m. one-no (h k l m)) in
+    omega arith
 
 skip-to : (b : List ℕ) (q first : ℕ) {d₀ d : List ℕ} {page m r : ℕ} → d₀ ≡ tab 1024 (λ i. 0) → m ≤ 1024 → page ≡ first - leavesBelow b q m
     → Written (leafPointer b q first) 0 m d₀ d → First (hasLeaf b q) m r → Pointing b q first d₀ d page r
@@ -161,20 +164,13 @@ leaf-below : (b : List ℕ) (q m : ℕ) → m < 1024 → hasLeaf b q m ≡ true 
 unfolding leavesBelow
 leaf-below b q m h e = omega (arith, sum-at 1024 m (λ k. one (hasLeaf b q k)) h, one-yes e)
 
-stack-slot : (b : List ℕ) (q : ℕ) → q ≢ 1 → hasLeaf b q 511 ≡ true
-unfolding hasLeaf choose
-stack-slot b q n = rw (ne-eqb q 1 n)
-
 kernel-below : (b : List ℕ) → leavesBelow b 1 1023 ≡ 0
 unfolding leavesBelow hasLeaf choose
 kernel-below b = sum-zero 1023 _ (λ k h. one-no (ne-eqb k 1023 (λ e. omega arith)))
 
 -- the root and at least one leaf
 two-tables : (b : List ℕ) (q : ℕ) → 1 ≤ leavesBelow b q 1024
-two-tables b q = elim (ℕ-discrete q 1) [
-  | yes e ↦ rw e (omega (arith, leaf-below b 1 1023 (omega arith) (kernel-leaf b)))
-  | no e ↦ omega (arith, leaf-below b q 511 (omega arith) (stack-slot b q e))
-]
+two-tables b q = omega (arith, leaf-below b q (ownSlot q) (own-inside q) (own-leaf b q))
 
 room-for-two : (b : List ℕ) (ram : PageRange) (q : ℕ) → Fits b ram → 1 ≤ q → q ≤ processCount b → rootPlace b (trackerPages b (ram .pages)) q + 2 ≤ ram .pages
 unfolding tableCount

@@ -78,7 +78,7 @@ added-free : (t : ℕ → Bool) (a z k : ℕ) → t k ≡ false → a ≤ k → 
 added-free t a z k e h l = one-yes (choose-no _ _ e ∙ rw (le-leb a k h, le-leb k z l))
 
 -- d terms more, all of them v
-sum-span : (f : ℕ → ℕ) (v a d : ℕ) → ((k : ℕ) → a ≤ k → k < a + d → f k ≡ v) → sum (a + d) f ≡ sum a f + d * v
+pub sum-span : (f : ℕ → ℕ) (v a d : ℕ) → ((k : ℕ) → a ≤ k → k < a + d → f k ≡ v) → sum (a + d) f ≡ sum a f + d * v
 unfolding sum
 sum-span f v a zero h = let e : a + 0 ≡ a = omega arith in rw (e, zero-mul v) (omega arith)
 sum-span f v a (suc d) h =
