@@ -1,6 +1,5 @@
 /*
- * Boot blocks of boards that are given as tables: a kernel, and user processes
- * that are all alike.
+ * Boot blocks of boards that are given as tables.
  */
 #ifndef BLOCK_H
 #define BLOCK_H
@@ -25,17 +24,26 @@ struct process {
     struct run runs[2];
 };
 
-struct board {
-    uint32_t users;
-    struct process kernel, user;
-    uint32_t region[2]; /* start and pages of the one region; no pages: none */
+/* Processes that are all alike. */
+struct group {
+    uint32_t count;
+    struct process process;
 };
 
-/* A block; where its section records are and how many it has so far; and the
- * bytes that these copy, which lie in flash one after the other. */
+/* The kernel is the first group. Regions lie one after the other. */
+struct board {
+    struct group groups[3];
+    struct {
+        uint32_t count, start, pages;
+    } regions;
+};
+
+/* A block; where its section and region records are; how many sections it has
+ * so far; and the bytes that these copy, which lie in flash one after the
+ * other. */
 struct block {
     uint8_t bytes[RIGPOLLEN_BLOCK_BYTES_MAX];
-    uint32_t length, sections_at, sections, copied;
+    uint32_t length, sections_at, regions_at, sections, copied;
 };
 
 static void put_words(uint8_t *at, const uint32_t *words, uint32_t count)
@@ -72,20 +80,36 @@ static void put_process(struct block *b, uint32_t i, const struct process *p)
     put_run(b, &p->runs[1]);
 }
 
+static void put_header(struct block *b, const struct board *board)
+{
+    uint32_t p = 0, s = 0;
+
+    for (int g = 0; g < 3; g++) {
+        p += board->groups[g].count;
+        s += board->groups[g].count * sections_of(&board->groups[g].process);
+    }
+    b->sections_at = 32 + 16 * p;
+    b->regions_at = b->sections_at + 16 * s;
+    b->length = b->regions_at + 8 * board->regions.count;
+    put_words(b->bytes, (const uint32_t[8]){ 1, b->length, p, 32, s, b->sections_at,
+                                             board->regions.count, b->regions_at }, 8);
+}
+
 static void make_block(struct block *b, const struct board *board)
 {
-    const uint32_t p = 1 + board->users, r = board->region[1] != 0;
-    const uint32_t s = sections_of(&board->kernel) + board->users * sections_of(&board->user);
-    const uint32_t sections_at = 32 + 16 * p, regions_at = sections_at + 16 * s;
-    const uint32_t head[8] = { 1, regions_at + 8 * r, p, 32, s, sections_at, r, regions_at };
+    uint32_t i = 0;
 
-    b->length = head[1];
-    b->sections_at = sections_at;
     b->sections = b->copied = 0;
-    put_words(b->bytes, head, 8);
-    for (uint32_t i = 0; i < p; i++)
-        put_process(b, i, i == 0 ? &board->kernel : &board->user);
-    put_words(b->bytes + regions_at, board->region, 2 * r);
+    put_header(b, board);
+    for (int g = 0; g < 3; g++)
+        for (uint32_t n = 0; n < board->groups[g].count; n++)
+            put_process(b, i++, &board->groups[g].process);
+    for (uint32_t n = 0; n < board->regions.count; n++) {
+        const uint32_t pages = board->regions.pages;
+
+        put_words(b->bytes + b->regions_at + 8 * n,
+                  (const uint32_t[2]){ board->regions.start + n * pages * PAGE, pages }, 2);
+    }
 }
 
 #endif

@@ -1,6 +1,5 @@
 /*
- * The boards that are loaded: a large one, 01's small one, and one with as many
- * root slots as sections.
+ * The boards that are loaded.
  */
 #ifndef BOARD_H
 #define BOARD_H
@@ -11,35 +10,44 @@
 #define TOP_PAGES     4u /* at RAM's top: never written */
 
 #define KERNEL        0xFFC00000u
+#define STACK_SLOT    0x7FC00000u /* the root slot that holds the stack */
 
-enum { LARGE_BOARD, SMALL_BOARD, ROOT_SLOTS, BOARDS };
+/* A kernel of one page. */
+#define SMALL_KERNEL  { 1, { KERNEL, { { 1, KERNEL, 0, PAGE, EXECUTABLE } } } }
+
+/* A process of n pages that are copied from flash, and n that are not. */
+#define HALF_COPIED(n) { 0x10000, { { 1, 0x10000, 0, (n) * PAGE, EXECUTABLE }, \
+                                    { 1, 0x10000 + (n) * PAGE, 0, (n) * PAGE, NOCOPY | WRITABLE } } }
+
+enum { LARGE_BOARD, SMALL_BOARD, ROOT_SLOTS, ONE_PAGE_SECTIONS, ONE_BYTE_USERS, BOARDS };
 
 static const struct {
     const char *name;
     uint32_t ram_pages;
     struct board board;
 } boards[BOARDS] = {
-    /* sixteen processes, 4,000 section pages: each process has a section that
-     * is copied from flash, and one of the same size that is not */
+    /* fifteen user processes whose sections take 4,000 pages */
     [LARGE_BOARD] = { "large board", 4096, {
-        .users = 15,
-        .kernel = { KERNEL, { { 1, KERNEL, 0, 50 * PAGE, EXECUTABLE },
-                              { 1, KERNEL + 50 * PAGE, 0, 50 * PAGE, NOCOPY | WRITABLE } } },
-        .user = { 0x10000, { { 1, 0x10000, 0, 130 * PAGE, EXECUTABLE },
-                             { 1, 0x10000 + 130 * PAGE, 0, 130 * PAGE, NOCOPY | WRITABLE } } },
+        .groups = { SMALL_KERNEL, { 14, HALF_COPIED(133) }, { 1, HALF_COPIED(138) } },
     } },
     [SMALL_BOARD] = { "small board", 16, {
-        .users = 1,
-        .kernel = { 0xFFC00010u, { { 1, KERNEL, 0, 256, EXECUTABLE } } },
-        .user = { 0x10020, { { 1, 0x10020, 0, 64, EXECUTABLE },
-                             { 1, 0x20000, 0, PAGE, NOCOPY | WRITABLE } } },
-        .region = { 0xF0000000u, 2 },
+        .groups = { { 1, { 0xFFC00010u, { { 1, KERNEL, 0, 256, EXECUTABLE } } } },
+                    { 1, { 0x10020, { { 1, 0x10020, 0, 64, EXECUTABLE },
+                                      { 1, 0x20000, 0, PAGE, NOCOPY | WRITABLE } } } } },
+        .regions = { 1, 0xF0000000u, 2 },
     } },
     /* each section of a user process has a root slot of its own */
-    [ROOT_SLOTS] = { "60 root slots", 4096, {
-        .users = 15,
-        .kernel = { KERNEL, { { 1, KERNEL, 0, PAGE, EXECUTABLE } } },
-        .user = { SLOT, { { 4, SLOT, SLOT, PAGE, EXECUTABLE } } },
+    [ROOT_SLOTS] = { "60 root slots", 256, {
+        .groups = { SMALL_KERNEL, { 15, { SLOT, { { 4, SLOT, SLOT, PAGE, EXECUTABLE } } } } },
+    } },
+    [ONE_PAGE_SECTIONS] = { "64 sections of one page", 256, {
+        .groups = { { 1, { KERNEL, { { 4, KERNEL, PAGE, PAGE, EXECUTABLE } } } },
+                    { 15, { SLOT, { { 4, SLOT, PAGE, PAGE, EXECUTABLE } } } } },
+    } },
+    /* as much to check and as little to load as can be */
+    [ONE_BYTE_USERS] = { "15 users of one byte", 55, {
+        .groups = { SMALL_KERNEL, { 15, { STACK_SLOT, { { 1, STACK_SLOT, 0, 1, EXECUTABLE } } } } },
+        .regions = { 32, 0xF0000000u, 1 },
     } },
 };
 

@@ -38,11 +38,10 @@ static double times[CASES][TURNS_MAX]; /* of one call, in nanoseconds */
 
 static void make_case(int i)
 {
-    const struct board board = {
-        .users = 1,
-        .kernel = { 0xFFC00000u, { { 1, 0xFFC00000u, 0, PAGE, EXECUTABLE } } },
-        .user = { cases[i].sections.address, { cases[i].sections } },
-    };
+    const struct board board = { .groups = {
+        { 1, { 0xFFC00000u, { { 1, 0xFFC00000u, 0, PAGE, EXECUTABLE } } } },
+        { 1, { cases[i].sections.address, { cases[i].sections } } },
+    } };
 
     make_block(&blocks[i], &board);
 }

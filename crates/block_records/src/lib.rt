@@ -1,6 +1,6 @@
 // The boot block's records, read from any bytes: what lies past their end counts as 0.
 ghost use mathlib.Core.Path.{_≡_};
-ghost use Prim.Native.Nat.{ℕ, _+_, _≤_, _<_};
+ghost use Prim.Native.Nat.{ℕ, _+_, _≤_};
 ghost use Rattle.notation.specs.Words.{word};
 ghost use Rattle.rules.specs.Block.{stackPages, sectionAt};
 ghost use Rattle.rules.specs.Contents.{stackPointer};
@@ -33,12 +33,12 @@ pub struct Region {
 pub fn read_process_record(block: &[u8], i: u32) -> Process
     ensures { λ r. ⌜ IsProcess (now (block .entry)) (i + 1) r ⌝ }
 {
-    let at = 32 + 16 * (i as usize);
+    let words = slices::four_words(block, 32 + 16 * (i as usize));
     Process {
-        entry_point: slices::word(block, at),
-        first_section: slices::word(block, at + 4),
-        sections: slices::word(block, at + 8),
-        kind: slices::word(block, at + 12),
+        entry_point: words.0,
+        first_section: words.1,
+        sections: words.2,
+        kind: words.3,
     }
 }
 
@@ -65,7 +65,7 @@ pub fn stack_pointer(q: u32) -> u32
 
 // Where the words of section record n are read. Past the end all words are 0, and 16 n might wrap.
 fn section_offset(block: &[u8], n: usize) -> usize
-    ensures { λ r. ⌜ (r < 0xFFFF_FFFF_FFFF_FF00) × ((k : ℕ) → word (now (block .entry)) (r + k) ≡ word (now (block .entry)) (sectionAt (now (block .entry)) n + k)) ⌝ }
+    ensures { λ r. ⌜ ((k : ℕ) → word (now (block .entry)) (r + k) ≡ word (now (block .entry)) (sectionAt (now (block .entry)) n + k)) ⌝ }
 {
     if block.len() / 16 < n {
         return block.len();
@@ -77,17 +77,17 @@ fn section_offset(block: &[u8], n: usize) -> usize
 pub fn read_section(block: &[u8], n: usize) -> Section
     ensures { λ r. ⌜ IsSection (now (block .entry)) n r ⌝ }
 {
-    let at = section_offset(block, n);
-    let address = slices::word(block, at);
-    let size = slices::word(block, at + 4);
-    let flags = slices::word(block, at + 12);
+    let words = slices::four_words(block, section_offset(block, n));
+    let address = words.0;
+    let size = words.1;
+    let flags = words.3;
     let first = address / 4096;
     let last = (numbers::minus(address as usize + size as usize, 1) / 4096) as u32;
     let pages = last + 1 - first;
     Section {
         address,
         size,
-        flash_offset: slices::word(block, at + 8),
+        flash_offset: words.2,
         flags,
         no_copy: numbers::bit(flags, 1),
         writable: numbers::bit(flags, 2),

@@ -15,13 +15,10 @@ use Rattle.notation.specs.Lists.{tab}
 use Rattle.laws.specs.Choice.{choose-yes, choose-no}
 use Rattle.laws.specs.Numbers.{leb-shift}
 use Rattle.laws.specs.Lists.{tab-length, tab-get, tab-by, tab-same}
-use Rattle.rules.specs.Lent.{imageOf}
-use Rattle.rules.specs.Block.{address, size, flashOffset}
-use Rattle.rules.specs.Contents.{sectionPageByte}
 use Rattle.block_records.specs.declared.Section.{Section}
-use Rattle.block_records.specs.Read.{IsSection}
 use Rattle.stores.specs.Writes.{copied}
 use Rattle.stores.proofs.Written.{copied-written}
+use Rattle.load_page.specs.Pages.{pageOf}
 
 -- A COPY AND ZEROS
 abbrev cleared : ℕ → List ℕ
@@ -65,19 +62,19 @@ page-byte l o s offset first k = elim (decLt (first + k) offset) [
       ∙ rw (x, take-byte, getD-drop, le-leb offset (first + k) (omega arith), leb-shift (suc (first + k - offset)) s (suc (first + k)) (offset + s) (omega arith))
 ]
 
-pub no-copy-page-is : (m : ℕ) {b p : List ℕ} {n : ℕ} {r : Section} (f : List ℕ) (i : ℕ) → IsSection b n r → r .«no_copy» ≡ true
-    → p ≡ cleared m → p ≡ tab m (sectionPageByte (imageOf b f) n i)
-unfolding sectionPageByte
-no-copy-page-is m f i s c ep = ep ∙ tab-same m _ _ 0 (λ k h. sym (choose-yes _ _ (rw (s .no-copy) at c)))
+pub no-copy-page-is : (m : ℕ) {p : List ℕ} (r : Section) (f : List ℕ) (i : ℕ) → r .«no_copy» ≡ true
+    → p ≡ cleared m → p ≡ tab m (pageOf r f i)
+unfolding pageOf
+no-copy-page-is m r f i c ep = ep ∙ tab-same m _ _ 0 (λ k h. sym (choose-yes _ _ c))
 
-pub section-page-is : (m : ℕ) {b q t u : List ℕ} {n at skip : ℕ} {r : Section} (f : List ℕ) (i : ℕ) → IsSection b n r → r .«no_copy» ≡ false
+pub section-page-is : (m : ℕ) {q t u : List ℕ} {at skip : ℕ} (r : Section) (f : List ℕ) (i : ℕ) → r .«no_copy» ≡ false
     → t ≡ take (r .size) (drop (r .«flash_offset») f)
     → skip ≡ 4096 * i - r .address % 4096
     → u ≡ drop skip t
     → at ≡ r .address % 4096 - 4096 * i
     → q ≡ copied (cleared m) at u
-    → q ≡ tab m (sectionPageByte (imageOf b f) n i)
-unfolding sectionPageByte
-section-page-is m {b} {n = n} f i s c et es eu ea eq =
-    eq ∙ rw (eu, et, es, ea, s .address-is, s .size-is, s .flash-offset) (copied-cleared m _ _ ∙ tab-same m _ _ 0 (λ k h.
-    page-byte f (flashOffset b n) (size b n) (address b n % 4096) (4096 * i) k ∙ sym (choose-no _ _ (rw (s .no-copy) at c))))
+    → q ≡ tab m (pageOf r f i)
+unfolding pageOf
+section-page-is m r f i c et es eu ea eq =
+    eq ∙ rw (eu, et, es, ea) (copied-cleared m _ _ ∙ tab-same m _ _ 0 (λ k h.
+    page-byte f (r .«flash_offset») (r .size) (r .address % 4096) (4096 * i) k ∙ sym (choose-no _ _ c)))

@@ -2,15 +2,14 @@
 ghost use mathlib.Core.Path.{_≡_};
 ghost use lib.ListN.{length, getD};
 ghost use Rattle.notation.specs.Lists.{tab};
-ghost use Rattle.rules.specs.Lent.{imageOf};
-ghost use Rattle.rules.specs.Contents.{sectionPageByte};
+ghost use Rattle.load_page.specs.Pages.{pageOf};
+use block_records::Section;
 
-// Page i of section record n: the section's bytes in it, at the virtual address's sub-page offset, and zero around them.
-// With NOCOPY all of it is zero. Bytes past the end of flash count as 0.
-pub fn section_page(page: &mut [u8], block: &[u8], flash: &[u8], n: usize, i: u32)
-    ensures { λ _. ⌜ now (page .exit) ≡ tab (length (now (page .entry))) (sectionPageByte (imageOf (now (block .entry)) (now (flash .entry))) n i) ⌝ }
+// Page i of a section: the section's bytes in it, at the virtual address's sub-page offset, and zero around them. With NOCOPY all
+// of it is zero. Bytes past the end of flash count as 0.
+pub fn section_page(page: &mut [u8], section: Section, flash: &[u8], i: u32)
+    ensures { λ _. ⌜ now (page .exit) ≡ tab (length (now (page .entry))) (pageOf section (now (flash .entry)) i) ⌝ }
 {
-    let section = block_records::read_section(block, n);
     if section.no_copy {
         stores::clear(page);
         return;

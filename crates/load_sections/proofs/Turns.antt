@@ -1,34 +1,66 @@
 -- What each loop holds, turn by turn: `Wrote`, for the pages so far.
-use mathlib.Core.Path.{_≡_, sym}
+use mathlib.Core.Path.{_≡_, refl, sym, _∙_}
+use mathlib.Core.Bool.{Bool, true, _&&_}
 use mathlib.Core.List.{List, _∷_, []}
-use Prim.Native.Nat.{ℕ, _+_, _-_}
+use Prim.Native.Nat.{ℕ, _+_, _-_, _*_, _≤_}
+use native.Mathlib.Omega.{arith}
 use Rattle.notation.specs.Lists.{tab, gather}
+use lib.Dec.{leb}
+use borrow.Author.Tests.{leb-true}
+use Rattle.laws.specs.Choice.{choose-yes, and-left, and-right}
 use Rattle.rules.specs.Lent.{Image}
 use Rattle.rules.specs.Block.{processCount, sectionsOf, sectionRecord, firstSection}
 use Rattle.rules.specs.Space.{sectionPage}
-use Rattle.rules.specs.Order.{Use, holds, pagesTaken, sectionPages, sectionUses, allSections}
-use Rattle.rules.specs.Contents.{sectionPageByte}
-use Rattle.writing.specs.Pages.{put}
-use Rattle.writing.specs.Uses.{Wrote, wrote-page, wrote-then, wrote-tab-next}
+use Rattle.rules.specs.Order.{Use, holds, sectionPages, sectionUses, allSections}
+use Rattle.writing.specs.Pages.{put, put-length}
+use Rattle.writing.specs.Uses.{Wrote, wrote-page, wrote-then, wrote-tab-none, wrote-tab-next}
 use Rattle.writing.specs.Loaded.{sectionContent, section-content}
+use Rattle.block_records.specs.declared.Section.{Section}
+use Rattle.block_records.specs.Read.{IsSection}
+use Rattle.load_page.specs.Pages.{pageOf, page-of-record}
+use Rattle.load_sections.specs.Pages.{WrotePages}
+
+-- a test of RAM that passed, among others
+pub room-left : (count left bytes : ℕ) (a : Bool) {has both : Bool} → has ≡ (leb count left && leb (4096 * left) bytes) → both ≡ (a && has) → both ≡ true
+    → (count ≤ left) × (4096 * left ≤ bytes)
+room-left count left bytes a h b t =
+    let p = rw h at (and-right a _ (rw b at t)) in
+    (leb-true _ _ (and-left _ _ p), leb-true _ _ (and-right (leb count left) _ p))
+
+-- PAGES, whatever they are used for
+module _ {f : ℕ → ℕ → ℕ} where
+  pub pages-none : (r : List ℕ) (n i : ℕ) → i ≡ 0 → WrotePages f i r n r n
+  pages-none r n i e = record { long = refl; left = omega arith; uses = λ c u s. rw e (wrote-tab-none c u r n) }
+
+  pub pages-next : {i : ℕ} {r₀ : List ℕ} {n₀ : ℕ} {r : List ℕ} {n : ℕ} {r′ : List ℕ} {n′ k : ℕ} → WrotePages f i r₀ n₀ r n
+      → n′ ≡ n - 1 → k ≡ n - 1 → r′ ≡ put r k (f i) → WrotePages f (i + 1) r₀ n₀ r′ n′
+  pages-next {i} {r = r} w l k p = record {
+    long = rw (p, put-length r _ (f i)) (w .long);
+    left = omega (arith, w .left);
+    uses = λ c u s. wrote-tab-next c u i (w .uses c u s) (wrote-page (u i) (f i) l k p (s i));
+  }
+
+  pub pages-all : (i count : ℕ) {r₀ : List ℕ} {n₀ : ℕ} {r : List ℕ} {n : ℕ} → WrotePages f i r₀ n₀ r n → i ≡ count → WrotePages f count r₀ n₀ r n
+  pages-all i count w e = rw e at w
+
+-- pages of zeros that a section without a copy has
+pub pages-cleared : (s : Section) (f : List ℕ) {r₀ : List ℕ} {n₀ : ℕ} {r : List ℕ} {n : ℕ} → s .«no_copy» ≡ true
+    → WrotePages (λ i o. 0) (s .pages) r₀ n₀ r n → WrotePages (pageOf s f) (s .pages) r₀ n₀ r n
+unfolding pageOf
+pages-cleared s f c w = record { long = w .long; left = w .left; uses = λ d u e. w .uses d u (λ i o h. sym (choose-yes _ _ c) ∙ e i o h) }
 
 -- page i of section j of process q
 abbrev pub pageUse : ℕ → ℕ → ℕ → Use
 pageUse q j i = holds (sectionPage q j i)
 
 module _ (x : Image) {r₀ : List ℕ} {n₀ : ℕ} {r : List ℕ} {n : ℕ} where
-  pub page-turn : (q j i m : ℕ) {r′ : List ℕ} {n′ k : ℕ} → Wrote (sectionContent x) (tab i (pageUse q j)) r₀ n₀ r n
-      → m ≡ firstSection (x .block) q + j → n′ ≡ n - 1 → k ≡ n - 1 → r′ ≡ put r k (sectionPageByte x m i)
-      → Wrote (sectionContent x) (tab (i + 1) (pageUse q j)) r₀ n₀ r′ n′
-  unfolding sectionRecord
-  page-turn q j i m w e l k p =
-      wrote-tab-next _ (pageUse q j) i w (wrote-page (pageUse q j i) (sectionPageByte x m i) l k p (λ o _. rw e (sym (section-content x q j i o))))
-
-  pub section-end : (q j i m count : ℕ) → Wrote (sectionContent x) (tab i (pageUse q j)) r₀ n₀ r n
-      → count ≡ pagesTaken (x .block) m → m ≡ firstSection (x .block) q + j → i ≡ count
+  -- a section's pages, as its record has them
+  pub section-end : (q j m : ℕ) (s : Section) → IsSection (x .block) m s → m ≡ firstSection (x .block) q + j
+      → WrotePages (pageOf s (x .flash)) (s .pages) r₀ n₀ r n
       → Wrote (sectionContent x) (sectionPages (x .block) q j) r₀ n₀ r n
   unfolding sectionPages sectionRecord
-  section-end q j i m count w p e l = rw (← e, ← p, ← l) w
+  section-end q j m s is e w =
+      rw (← e, ← is .pages-taken) (w .uses (sectionContent x) (pageUse q j) (λ i o _. page-of-record (x .flash) i o is ∙ rw e (sym (section-content x q j i o))))
 
   pub process-end : (q j : ℕ) → Wrote (sectionContent x) (gather j (sectionPages (x .block) q)) r₀ n₀ r n → j ≡ sectionsOf (x .block) q
       → Wrote (sectionContent x) (sectionUses (x .block) q) r₀ n₀ r n

@@ -1,22 +1,77 @@
 // The pages of all sections, loaded into RAM from the top down. RAM may be any bytes: a page that it has not is left out.
 ghost use mathlib.Core.Path.{_≡_};
-ghost use Rattle.rules.specs.Contents.{sectionPageByte};
+ghost use mathlib.Core.Bool.{_&&_};
+ghost use Prim.Native.Nat.{_+_, _*_, _≤_};
+ghost use lib.Dec.{leb};
+ghost use lib.ListN.{length};
 ghost use Rattle.rules.specs.Lent.{imageOf};
 ghost use Rattle.rules.specs.Order.{sectionPages, sectionUses, allSections};
 ghost use Rattle.writing.specs.Pages.{put};
 ghost use Rattle.writing.specs.Uses.{Wrote};
 ghost use Rattle.writing.specs.Loaded.{sectionContent};
+ghost use Rattle.load_page.specs.Pages.{pageOf};
+ghost use Rattle.load_sections.specs.Pages.{WrotePages};
+use block_records::Section;
 use page_allocator::PageAllocator;
 use types::RamPage;
 
-// Page i of section record n into RAM page k.
-fn load_page(ram: &mut [u8], k: RamPage, block: &[u8], flash: &[u8], n: usize, i: u32)
-    ensures { λ _. ⌜ now (ram .exit) ≡ put (now (ram .entry)) (k .0) (sectionPageByte (imageOf (now (block .entry)) (now (flash .entry))) n i) ⌝ }
+// Page i of a section into RAM page k.
+fn load_page(ram: &mut [u8], k: RamPage, section: Section, flash: &[u8], i: u32)
+    ensures { λ _. ⌜ now (ram .exit) ≡ put (now (ram .entry)) (k .0) (pageOf section (now (flash .entry)) i) ⌝ }
 {
     let from = numbers::least(k.0 as usize * 4096, ram.len());
     let to = numbers::least(from + 4096, ram.len());
     let page = &mut ram[from..to];
-    load_page::section_page(page, block, flash, n, i);
+    load_page::section_page(page, section, flash, i);
+}
+
+// All pages of a section.
+fn load_pages(ram: &mut [u8], section: Section, flash: &[u8], from: PageAllocator) -> PageAllocator
+    ensures { λ r. ⌜ WrotePages (pageOf section (now (flash .entry))) (section .pages) (now (ram .entry)) (from .left) (now (ram .exit)) (r .left) ⌝ }
+{
+    let count = section.pages;
+    let mut next = from;
+    let mut i: u32 = 0;
+    while i < count {
+        let got = next.allocate();
+        load_page(ram, got.page, section, flash, i);
+        next = got.rest;
+        i += 1;
+    }
+    next
+}
+
+// Clears RAM page k.
+fn clear_page(ram: &mut [u8], k: RamPage)
+    requires { ⌜ 4096 * k .0 + 4096 ≤ length (now ram) ⌝ }
+    ensures { λ _. ⌜ now (ram .exit) ≡ put (now (ram .entry)) (k .0) (λ o. 0) ⌝ }
+{
+    let start = k.0 as usize * 4096;
+    let page = &mut ram[start..start + 4096];
+    stores::clear(page);
+}
+
+// Clears `count` pages that RAM has. Nothing but the page's number changes from turn to turn, so that a compiler can make all of it one
+// memset.
+fn clear_pages(ram: &mut [u8], count: u32, from: PageAllocator) -> PageAllocator
+    requires { ⌜ (count ≤ from .left) × (4096 * from .left ≤ length (now ram)) ⌝ }
+    ensures { λ r. ⌜ WrotePages (λ i o. 0) count (now (ram .entry)) (from .left) (now (ram .exit)) (r .left) ⌝ }
+{
+    let end = from.left - count;
+    let mut next = from;
+    while end < next.left {
+        let got = next.allocate();
+        clear_page(ram, got.page);
+        next = got.rest;
+    }
+    next
+}
+
+// RAM of `bytes` bytes has the pages that are left, and they are as many as `count`.
+fn has_pages(bytes: usize, count: u32, from: PageAllocator) -> bool
+    ensures { λ r. ⌜ r ≡ (leb count (from .left) && leb (4096 * from .left) bytes) ⌝ }
+{
+    numbers::both(count <= from.left, 4096 * (from.left as usize) <= bytes)
 }
 
 // Section j, counted from 0, of process q.
@@ -32,18 +87,11 @@ fn load_section(
         (now (ram .entry)) (from .left) (now (ram .exit)) (r .left) ⌝ }
 {
     let process = block_records::read_process(block, q);
-    let n = process.first_section as usize + j as usize;
-    let section = block_records::read_section(block, n);
-    let count = section.pages;
-    let mut next = from;
-    let mut i: u32 = 0;
-    while i < count {
-        let got = next.allocate();
-        load_page(ram, got.page, block, flash, n, i);
-        next = got.rest;
-        i += 1;
+    let section = block_records::read_section(block, process.first_section as usize + j as usize);
+    if numbers::both(section.no_copy, has_pages(ram.len(), section.pages, from)) {
+        return clear_pages(ram, section.pages, from);
     }
-    next
+    load_pages(ram, section, flash, from)
 }
 
 // All sections of process q.

@@ -1,12 +1,17 @@
 -- Laws of a list's parts with a bound that is cut off at the list's end.
-use mathlib.Core.Path.{_≡_, ap, _∙_}
+use mathlib.Core.Path.{_≡_, sym, ap, _∙_}
 use mathlib.Core.List.{List, [], _∷_}
-use Prim.Native.Nat.{ℕ, zero, suc, _+_, _-_, _*_, min}
-use native.Mathlib.Nat.{add-zero, le-refl}
+use Prim.Native.Nat.{ℕ, zero, suc, _+_, _-_, _*_, _≤_, min}
+use native.Mathlib.Nat.{add-zero, sub-zero, le-refl}
+use native.Mathlib.Decide.{decLt}
 use native.Mathlib.Omega.{arith}
-use lib.ListN.{length, getD, take, drop, length-drop}
+use lib.ListN.{length, getD, take, drop, replicate, getD-replicate, length-replicate, length-drop, List·getD-eq-default}
 use lib.Seq.{take-all, take-nil, drop-nil, getD-drop}
 use Rattle.notation.specs.Words.{word}
+use Rattle.stores.specs.Writes.{copied}
+use Rattle.stores.proofs.Written.{Written, copyOf, copied-written}
+use Rattle.slices.specs.declared.FourWords.{FourWords}
+use Rattle.slices.specs.Words.{AreWords}
 
 pub take-least : (n : ℕ) (l : List ℕ) → take (min n (length l)) l ≡ take n l
 take-least n [] = take-nil (min n 0) ∙ rw take-nil
@@ -29,8 +34,52 @@ tail-is n l m e = take-all (length l - m) (drop m l) (rw length-drop (le-refl (l
 pub part-is : (n : ℕ) (l : List ℕ) (m : ℕ) → m ≡ min n (length l) → take m l ≡ take n l
 part-is n l m e = rw (e, take-least)
 
--- a word of the bytes from an index on
-pub word-tail : (n : ℕ) (l t : List ℕ) → t ≡ drop n l
-    → getD t 0 0 + 256 * getD t 1 0 + 65536 * getD t 2 0 + 16777216 * getD t 3 0 ≡ word l n
+-- WORDS
+-- of the bytes from an index on
+pub word-drop : (n : ℕ) (l : List ℕ) (k : ℕ) → word (drop n l) k ≡ word l (n + k)
 unfolding word
-word-tail n l t e = rw (e, getD-drop n l 0 0, getD-drop n l 1 0, getD-drop n l 2 0, getD-drop n l 3 0, add-zero)
+word-drop n l k =
+    let e : (c : ℕ) → n + (k + c) ≡ n + k + c = λ c. omega arith in
+    rw (getD-drop n l k 0, getD-drop n l (k + 1) 0, getD-drop n l (k + 2) 0, getD-drop n l (k + 3) 0, e 1, e 2, e 3)
+
+pub word-tail : (n : ℕ) (l t : List ℕ) → t ≡ drop n l → word t 0 ≡ word l n
+word-tail n l t e = rw (e, word-drop, add-zero)
+
+-- from its bytes
+pub joined-tail : (n : ℕ) (l t : List ℕ) {v : ℕ} → v ≡ getD t 0 0 + 256 * getD t 1 0 + 65536 * getD t 2 0 + 16777216 * getD t 3 0
+    → t ≡ drop n l → v ≡ word l n
+joined-tail n l t e d = e ∙ (unfold word in word-tail n l t d)
+
+pub words-tail : (n : ℕ) (l t : List ℕ) (r : FourWords) → t ≡ drop n l → AreWords t 0 r → AreWords l n r
+words-tail n l t r e w = record {
+  first = w .first ∙ word-tail n l t e;
+  second = w .second ∙ rw (e, word-drop);
+  third = w .third ∙ rw (e, word-drop);
+  fourth = w .fourth ∙ rw (e, word-drop);
+}
+
+-- of a copy with zeros after it
+pub zeros-get : (n x : ℕ) → getD (replicate {A = ℕ} n 0) x 0 ≡ 0
+zeros-get n x = elim (decLt x n) [
+  | yes l ↦ getD-replicate n x 0 0 l
+  | no l ↦ List·getD-eq-default (replicate n 0) 0 {n = x} (rw length-replicate (omega arith))
+]
+
+pub padded-get : (z t p : List ℕ) → ((x : ℕ) → getD z x 0 ≡ 0) → length t ≤ length z → p ≡ copied z 0 t → (x : ℕ) → getD p x 0 ≡ getD t x 0
+padded-get z t p n h e x =
+    let w : Written (copyOf 0 t) 0 (0 + length t) z p = rw e (copied-written z 0 t) in
+    elim (decLt x (length t)) [
+      | yes l ↦ w .inside x (omega arith) (omega arith) (omega arith) ∙ rw sub-zero
+      | no l ↦ w .above x (omega arith) ∙ n x ∙ sym (List·getD-eq-default t 0 {n = x} (omega arith))
+    ]
+
+pub words-padded : (z t p : List ℕ) (r : FourWords) → ((x : ℕ) → getD z x 0 ≡ 0) → length t ≤ length z → p ≡ copied z 0 t → AreWords p 0 r → AreWords t 0 r
+unfolding word
+words-padded z t p r n h e w =
+    let same = padded-get z t p n h e in
+    record {
+      first = w .first ∙ rw (same 0, same 1, same 2, same 3);
+      second = w .second ∙ rw (same 4, same 5, same 6, same 7);
+      third = w .third ∙ rw (same 8, same 9, same 10, same 11);
+      fourth = w .fourth ∙ rw (same 12, same 13, same 14, same 15);
+    }

@@ -1,8 +1,9 @@
 // Bytes and words read from lent slices: each function answers for any input.
 ghost use mathlib.Core.Path.{_≡_};
-ghost use Prim.Native.Nat.{_+_, _*_};
-ghost use lib.ListN.{getD, take, drop};
+ghost use Prim.Native.Nat.{_+_, _*_, _≤_, _<_};
+ghost use lib.ListN.{length, getD, take, drop};
 ghost use Rattle.notation.specs.Words.{word};
+ghost use Rattle.slices.specs.Words.{AreWords};
 
 // The byte at an index, 0 past the end.
 pub fn byte(s: &[u8], at: usize) -> u8
@@ -35,13 +36,51 @@ fn joined(a: u8, b: u8, c: u8, d: u8) -> u32
     a as u32 + 256 * (b as u32) + 65536 * (c as u32) + 16777216 * (d as u32)
 }
 
+// Four words, one after the other.
+pub struct FourWords(pub u32, pub u32, pub u32, pub u32);
+
+// The first four words of bytes that have as many.
+fn first_words(s: &[u8]) -> FourWords
+    requires { ⌜ 16 ≤ length (now s) ⌝ }
+    ensures { λ r. ⌜ AreWords (now (s .entry)) 0 r ⌝ }
+{
+    FourWords(
+        joined(s[0], s[1], s[2], s[3]),
+        joined(s[4], s[5], s[6], s[7]),
+        joined(s[8], s[9], s[10], s[11]),
+        joined(s[12], s[13], s[14], s[15]),
+    )
+}
+
+// The first four words of bytes that end before. As a copy with zeros after it they are read without a test for each byte.
+fn padded_words(s: &[u8]) -> FourWords
+    requires { ⌜ length (now s) < 16 ⌝ }
+    ensures { λ r. ⌜ AreWords (now (s .entry)) 0 r ⌝ }
+{
+    let mut padded = [0u8; 16];
+    stores::copy_in(&mut padded, 0, s);
+    first_words(&padded)
+}
+
 // The little-endian word at an index; bytes past the end count as 0.
 pub fn word(s: &[u8], at: usize) -> u32
     ensures { λ r. ⌜ r ≡ word (now (s .entry)) at ⌝ }
 {
     let t = tail(s, at);
     if t.len() < 4 {
-        return joined(byte(t, 0), byte(t, 1), byte(t, 2), byte(t, 3));
+        let words = padded_words(t);
+        return words.0;
     }
     joined(t[0], t[1], t[2], t[3])
+}
+
+// The four little-endian words from an index on; bytes past the end count as 0.
+pub fn four_words(s: &[u8], at: usize) -> FourWords
+    ensures { λ r. ⌜ AreWords (now (s .entry)) at r ⌝ }
+{
+    let t = tail(s, at);
+    if t.len() < 16 {
+        return padded_words(t);
+    }
+    first_words(t)
 }

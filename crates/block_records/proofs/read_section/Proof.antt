@@ -9,20 +9,8 @@ use Rattle.block_records.proofs.read_section.Tie as tie
 section-offset-requires : tie.Need-section-offset-requires
 section-offset-requires c κs = search needs
 
-word-requires : tie.Need-word-requires
-word-requires c κs = search needs
-
-add-word : tie.Need-add-word
-add-word c = search needs
-
-word-requires-2 : tie.Need-word-requires-2
-word-requires-2 c κs = search needs
-
-add-word-2 : tie.Need-add-word-2
-add-word-2 c = search needs
-
-word-requires-3 : tie.Need-word-requires-3
-word-requires-3 c κs = search needs
+four-words-requires : tie.Need-four-words-requires
+four-words-requires c κs = search needs
 
 cast-minus : tie.Need-cast-minus
 cast-minus c = search needs
@@ -45,12 +33,6 @@ add-pages c = search needs
 sub-pages : tie.Need-sub-pages
 sub-pages c = search needs
 
-add-word-3 : tie.Need-add-word-3
-add-word-3 c = search needs
-
-word-requires-4 : tie.Need-word-requires-4
-word-requires-4 c κs = search needs
-
 bit-requires : tie.Need-bit-requires
 bit-requires c κs = search needs
 
@@ -63,18 +45,18 @@ bit-requires-3 c κs = search needs
 returns : tie.Need-returns
 unfolding address size flashOffset flags
 returns c =
-    let at-flags = c .before .before .before .before .before in
-    let at-word = at-flags .before .before in
-    let same = at-word .before .section-offset .ensures .1 in
+    let at-words = c .before .before .before .before in
+    let words = at-words .four-words .ensures in
+    let same = at-words .before .section-offset .ensures in
     section-is
-    (first-word _ _ _ _ same (at-word .word .ensures))
-    (at-flags .before .word2 .ensures ∙ same 4)
-    (c .before .before .before .word4 .ensures ∙ same 8)
-    (at-flags .word3 .ensures ∙ same 12)
+    (first-word _ _ _ _ same (words .first))
+    (words .second ∙ same 4)
+    (words .third ∙ same 8)
+    (words .fourth ∙ same 12)
     (c .before .before .bit .ensures)
     (c .before .bit2 .ensures)
     (c .bit3 .ensures)
-    (c .before .before .before .before .minus .ensures)
+    (c .before .before .before .minus .ensures)
     (omega arith)
     (omega arith)
 
@@ -83,11 +65,7 @@ read-section-spec =
     tie.close
     (tie.spec
     section-offset-requires
-    word-requires
-    add-word
-    word-requires-2
-    add-word-2
-    word-requires-3
+    four-words-requires
     cast-minus
     cast-minus-2
     add-minus
@@ -95,8 +73,6 @@ read-section-spec =
     cast-last
     add-pages
     sub-pages
-    add-word-3
-    word-requires-4
     bit-requires
     bit-requires-2
     bit-requires-3

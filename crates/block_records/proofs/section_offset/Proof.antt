@@ -1,4 +1,3 @@
-use native.Mathlib.Omega.{arith}
 use borrow.Author.Needs.{needs}
 use Rattle.rules.specs.Block.{sectionAt}
 use Rattle.block_records.proofs.Sections.{section-past}
@@ -6,7 +5,7 @@ use Rattle.block_records.proofs.section_offset.Statement.{statement}
 use Rattle.block_records.proofs.section_offset.Tie as tie
 
 returns : tie.Need-returns
-returns c = (omega arith, section-past _ _ (c .if1 .taken))
+returns c = section-past _ _ (c .if1 .taken)
 
 sections-at-requires : tie.Need-sections-at-requires
 sections-at-requires c κs = search needs
@@ -19,7 +18,7 @@ add-result c = search needs
 
 returns-2 : tie.Need-returns-2
 unfolding sectionAt
-returns-2 c = (omega arith, λ k. rw (c .sections-at .ensures .0))
+returns-2 c = λ k. rw (c .sections-at .ensures .0)
 
 pub section-offset-spec : {M : Type 1} → statement M
 section-offset-spec =

@@ -3,9 +3,6 @@ use borrow.Author.Needs.{needs}
 use Rattle.load_page.proofs.section_page.Statement.{statement}
 use Rattle.load_page.proofs.section_page.Tie as tie
 
-read-section-requires : tie.Need-read-section-requires
-read-section-requires c κs = search needs
-
 clear-requires : tie.Need-clear-requires
 clear-requires c κs = search needs
 
@@ -14,8 +11,7 @@ same-length c = search needs
 
 returns : tie.Need-returns
 returns c =
-    let at-if = c .before .before .before .before in
-    no-copy-page-is _ _ _ (at-if .before .read-section .ensures) (at-if .if1 .taken) (c .before .before .clear .ensures)
+    no-copy-page-is _ _ _ _ (c .before .before .before .before .if1 .taken) (c .before .before .clear .ensures)
 
 cast-offset : tie.Need-cast-offset
 cast-offset c = search needs
@@ -51,8 +47,7 @@ returns-2 : tie.Need-returns-2
 returns-2 c =
     let at-tail = c .before .before .before .before .before in
     let at-if = at-tail .before .before .before .before .before .before in
-    section-page-is _ _ _
-    (at-if .before .read-section .ensures)
+    section-page-is _ _ _ _
     (at-if .if1 .left)
     (at-tail .before .before .part .ensures)
     (at-tail .before .minus .ensures)
@@ -64,7 +59,6 @@ pub section-page-spec : {M : Type 1} → statement M
 section-page-spec =
     tie.close
     (tie.spec
-    read-section-requires
     clear-requires
     same-length
     returns

@@ -1,76 +1,72 @@
-use Prim.Native.Nat.{_-_, _≤_}
-use Rattle.notation.specs.Lists.{tab}
+use Rattle.laws.specs.Choice.{and-left}
 use Rattle.rules.specs.Lent.{imageOf}
-use Rattle.writing.specs.Uses.{Wrote, wrote-tab-none}
-use Rattle.writing.specs.Loaded.{sectionContent}
-use Rattle.load_sections.proofs.Turns.{pageUse, page-turn, section-end}
+use Rattle.load_sections.proofs.Turns.{room-left, pages-cleared, section-end}
 use native.Mathlib.Omega.{arith}
 use borrow.Author.Needs.{needs}
 use Rattle.load_sections.proofs.load_section.Statement.{statement}
 use Rattle.load_sections.proofs.load_section.Tie as tie
 
-abbrev Inv-loop : tie.InvT-loop
-Inv-loop ram₀ block flash q j n count next₀ i₀ ram next i = (i ≤ count) × Wrote (sectionContent (imageOf block flash)) (tab i (pageUse q j)) ram₀ (next₀ .left) ram (next .left)
-
-abbrev μ-loop : tie.MeasureT-loop
-μ-loop ram₀ block flash q j n count next₀ i₀ ram next i = count - i
-
-read-process-requires : tie.Need-read-process-requires Inv-loop μ-loop
+read-process-requires : tie.Need-read-process-requires
 read-process-requires c κs = search needs
 
-cast-n : tie.Need-cast-n Inv-loop μ-loop
-cast-n c = search needs
+cast-read-section : tie.Need-cast-read-section
+cast-read-section c = search needs
 
-add-n : tie.Need-add-n Inv-loop μ-loop
-add-n c = search needs
+add-read-section : tie.Need-add-read-section
+add-read-section c = search needs
 
-read-section-requires : tie.Need-read-section-requires Inv-loop μ-loop
+read-section-requires : tie.Need-read-section-requires
 read-section-requires c κs = search needs
 
-loop-holds : tie.Need-loop-holds Inv-loop μ-loop
-loop-holds c = (search needs, wrote-tab-none _ _ _ _)
+has-pages-requires : tie.Need-has-pages-requires
+has-pages-requires c κs = search needs
 
-allocate-requires : tie.Need-allocate-requires Inv-loop μ-loop
-allocate-requires c κs = search needs
+both-requires : tie.Need-both-requires
+both-requires c κs = search needs
 
-load-page-requires : tie.Need-load-page-requires Inv-loop μ-loop
-load-page-requires c κs = search needs
+clear-pages-requires : tie.Need-clear-pages-requires
+clear-pages-requires c κs =
+    let has = c .before .before .before .has-pages .ensures in
+    room-left _ _ _ (c .before .before .before .before .read-section .result .«no_copy») has (c .before .before .both .ensures) (c .before .if1 .taken)
 
-add-i : tie.Need-add-i Inv-loop μ-loop
-add-i c = search needs
-
-loop-less : tie.Need-loop-less Inv-loop μ-loop
-loop-less c = search needs
-
-loop-again : tie.Need-loop-again Inv-loop μ-loop
-loop-again c =
-    let at-page = c .before .before .before in
-    let loop = at-page .before .before .before .before in
-    (omega arith, page-turn _ _ _ _ _ (loop .loop .inv .1) (omega (arith, loop .before .before .before .read-process .ensures .first-section)) (at-page .before .before .allocate .ensures .1) (at-page .before .before .allocate .ensures .0) (at-page .load-page .ensures))
-
-same-length : tie.Need-same-length Inv-loop μ-loop
+same-length : tie.Need-same-length
 same-length c = search needs
 
-returns : tie.Need-returns Inv-loop μ-loop
+returns : tie.Need-returns
 returns c =
-    section-end _ _ _ _ _ _ (c .before .loop .inv .1) (c .before .before .read-section .ensures .pages-taken)
-    (omega (arith, c .before .before .before .before .read-process .ensures .first-section)) (omega arith)
+    let at-both = c .before .before .before .before .before in
+    let section = at-both .before .before .read-section in
+    let copies-none = and-left _ _ (rw (at-both .both .ensures) at (c .before .before .before .before .if1 .taken)) in
+    section-end (imageOf _ _) _ _ _ (section .result) (section .ensures)
+    (omega (arith, at-both .before .before .before .before .read-process .ensures .first-section))
+    (pages-cleared _ _ copies-none (c .before .before .clear-pages .ensures))
+
+load-pages-requires : tie.Need-load-pages-requires
+load-pages-requires c κs = search needs
+
+same-length-2 : tie.Need-same-length-2
+same-length-2 c = search needs
+
+returns-2 : tie.Need-returns-2
+returns-2 c =
+    let section = c .before .before .before .before .before .before .before .read-section in
+    section-end (imageOf _ _) _ _ _ (section .result) (section .ensures)
+    (omega (arith, c .before .before .before .before .before .before .before .before .before .read-process .ensures .first-section))
+    (c .before .before .load-pages .ensures)
 
 pub load-section-spec : {M : Type 1} → statement M
 load-section-spec =
     tie.close
     (tie.spec
-    Inv-loop
-    μ-loop
     read-process-requires
-    cast-n
-    add-n
+    cast-read-section
+    add-read-section
     read-section-requires
-    loop-holds
-    allocate-requires
-    load-page-requires
-    add-i
-    loop-less
-    loop-again
+    has-pages-requires
+    both-requires
+    clear-pages-requires
     same-length
-    returns)
+    returns
+    load-pages-requires
+    same-length-2
+    returns-2)

@@ -1,0 +1,200 @@
+//! The loader of `plain.rs` in the forms that document 01 names ("The shape of some places"): a page allocator that hands out one
+//! page and returns itself, each page lent as its own 4,096 bytes, and a table built as 1,024 entries and then stored. The checks
+//! are those of `plain.rs`.
+
+use crate::plain::*;
+
+type Page = [u8; PAGE];
+type Table = [u32; ENTRIES as usize];
+
+#[derive(Clone, Copy)]
+struct PageAllocator {
+    left: usize,
+}
+
+impl PageAllocator {
+    fn allocate(self) -> (usize, PageAllocator) {
+        (self.left - 1, PageAllocator { left: self.left - 1 })
+    }
+}
+
+fn lend(ram: &mut [u8], k: usize) -> &mut Page {
+    (&mut ram[k * PAGE..(k + 1) * PAGE]).try_into().unwrap()
+}
+
+/// Page i of a section.
+fn load_page(page: &mut Page, section: Section, flash: &[u8], i: usize) {
+    if section.flags & NOCOPY != 0 {
+        page.fill(0);
+        return;
+    }
+    let offset = section.address as usize % PAGE;
+    let at = offset.saturating_sub(i * PAGE);
+    let skipped = (i * PAGE).saturating_sub(offset);
+    let from = section.flash_offset as usize + skipped;
+    let count = (section.size as usize - skipped).min(PAGE - at);
+    page[at..at + count].copy_from_slice(&flash[from..from + count]);
+    if count < PAGE {
+        page[..at].fill(0);
+        page[at + count..].fill(0);
+    }
+}
+
+/// All sections.
+fn load_sections(
+    records: Records,
+    flash: &[u8],
+    ram: &mut [u8],
+    mut next: PageAllocator,
+) -> PageAllocator {
+    let users = records.processes().skip(1);
+    for process in users.chain(records.processes().take(1)) {
+        for section in records.sections(process) {
+            for i in 0..section.pages() {
+                let (k, rest) = next.allocate();
+                load_page(lend(ram, k), section, flash, i);
+                next = rest;
+            }
+        }
+    }
+    next
+}
+
+/// The page tracker.
+fn load_tracker(plan: &Plan, ram: &mut [u8], mut next: PageAllocator) -> PageAllocator {
+    let pages = ram.len() / PAGE;
+    for i in 0..plan.tracker {
+        let (k, rest) = next.allocate();
+        let page = lend(ram, k);
+        page.fill(0);
+        if i == 0 {
+            plan.track_owners(page, pages);
+        }
+        next = rest;
+    }
+    next
+}
+
+fn store(page: &mut Page, entries: &Table) {
+    for (bytes, entry) in page.chunks_exact_mut(4).zip(entries) {
+        bytes.copy_from_slice(&entry.to_le_bytes());
+    }
+}
+
+/// Entries for `count` pages from index `at` of a table on: the first for physical page `page`, each next one for the page below.
+fn map(entries: &mut Table, at: usize, count: usize, page: u32, flags: u32) {
+    let mut entry = page << 10 | flags;
+    for to in &mut entries[at..at + count] {
+        *to = entry;
+        entry = entry.wrapping_sub(ENTRIES);
+    }
+}
+
+/// The tables of one process. RAM starts at physical page `base`.
+struct Tables<'a> {
+    ram: &'a mut [u8],
+    base: u32,
+    next: PageAllocator,
+    root: Table,
+    /// The last leaf table, its root slot and its page.
+    leaf: Table,
+    open: Option<(u32, usize)>,
+}
+
+impl<'a> Tables<'a> {
+    /// The leaf table for a root slot that is not below the last one.
+    fn leaf(&mut self, slot: u32) -> &mut Table {
+        if !matches!(self.open, Some((open, _)) if open == slot) {
+            self.store_leaf();
+            let (k, rest) = self.next.allocate();
+            self.next = rest;
+            self.open = Some((slot, k));
+            self.root[slot as usize] = (self.base + k as u32) << 10 | POINTER;
+            self.leaf = [0; ENTRIES as usize];
+        }
+        &mut self.leaf
+    }
+
+    fn store_leaf(&mut self) {
+        if let Some((_, k)) = self.open {
+            store(lend(self.ram, k), &self.leaf);
+        }
+    }
+
+    /// Maps a section whose first page is physical page `page`.
+    fn map_section(&mut self, section: Section, mut page: u32, flags: u32) {
+        let (mut from, end) = (section.first_page(), section.last_page() + 1);
+        while from < end {
+            let slot = from / ENTRIES;
+            let to = end.min((slot + 1) * ENTRIES);
+            let count = to - from;
+            map(self.leaf(slot), (from % ENTRIES) as usize, count as usize, page, flags);
+            page = page.wrapping_sub(count);
+            from = to;
+        }
+    }
+}
+
+/// All tables, the kernel's first, and the list of their roots in page `list`. The tracker's first page is page `tracker`.
+fn load_tables(
+    plan: &Plan,
+    ram: &mut [u8],
+    base: u32,
+    list: usize,
+    tracker: usize,
+    mut next: PageAllocator,
+) {
+    let pages = ram.len() / PAGE;
+    let kernel_leaf = base + next.left as u32 - 2;
+    let mut section_top = tracker + 1 + plan.kernel_pages();
+    lend(ram, list).fill(0);
+    for (i, process) in plan.records.processes().enumerate() {
+        let (root, rest) = next.allocate();
+        list_process(lend(ram, list), i + 1, process.entry_point, base + root as u32);
+        let mut tables = Tables {
+            ram,
+            base,
+            next: rest,
+            root: [0; ENTRIES as usize],
+            leaf: [0; ENTRIES as usize],
+            open: None,
+        };
+        for section in plan.records.sections(process) {
+            let flags = section.page_flags(i > 0);
+            tables.map_section(section, base + section_top as u32 - 1, flags);
+            section_top -= section.pages();
+        }
+        if i == 0 {
+            let leaf = tables.leaf(KERNEL_SLOT as u32);
+            map(leaf, 0x300, 1, base + list as u32 - 1, READ);
+            map(leaf, 0x340, plan.tracker, base + tracker as u32, READ | WRITE);
+            map(leaf, 0x380, 1, base + list as u32, READ);
+            section_top = pages - TOP_PAGES;
+        } else {
+            tables.leaf(STACK_SLOT)[1020..].fill(RESERVED);
+        }
+        tables.store_leaf();
+        tables.root[KERNEL_SLOT] = kernel_leaf << 10 | POINTER;
+        store(lend(tables.ram, root), &tables.root);
+        next = tables.next;
+    }
+}
+
+/// Loads the block's programs from flash into RAM that starts at physical address `start`, or refuses and leaves RAM as it came.
+pub fn load(block: &[u8], flash: &[u8], ram: &mut [u8], start: u32) -> Answer {
+    let plan = match check(block, flash.len() as u64, ram.len(), start) {
+        Ok(plan) => plan,
+        Err(refusal) => return refusal.answer(),
+    };
+    let pages = ram.len() / PAGE;
+    let below_top = PageAllocator { left: pages - TOP_PAGES };
+    let after_sections = load_sections(plan.records, flash, ram, below_top);
+    let (list, after_list) = load_tracker(&plan, ram, after_sections).allocate();
+    let (copy, after_copy) = after_list.allocate();
+    let page = lend(ram, copy);
+    page[..block.len()].copy_from_slice(block);
+    page[block.len()..].fill(0);
+    let tracker = after_sections.left - 1;
+    load_tables(&plan, ram, start / PAGE as u32, list, tracker, after_copy);
+    plan.answer(pages)
+}
