@@ -5,6 +5,9 @@
  * times as many of another, in microseconds. In each turn each of them loads
  * once, into RAM that was made dirty before.
  *
+ * boot BOARD: loads the board of this number once by each loader, for a tool
+ * that counts instructions, and prints its name.
+ *
  * Ends with 1 where the large board takes the proved loader over LIMIT times
  * as long as plain Rust, and with 2 where two loaders differ in an answer or
  * in a byte of RAM: after any timed load, or for any block that the small
@@ -281,22 +284,43 @@ static void tell(void)
                medians[i][COPY]);
 }
 
-int main(int argc, char **argv)
+static int load_once(int board)
 {
-    const int turns = argc == 3 ? atoi(argv[1]) : 0;
+    if (board < 0 || board >= BOARDS)
+        return 1;
+    make_board(board);
+    load_proved();
+    for (int which = PLAIN; which < LOADERS; which++) {
+        prepare();
+        run(which);
+        see_same(boards[board].name, which);
+    }
+    printf("%s\n", boards[board].name);
+    return 0;
+}
+
+static int compare_all(int turns, const char *limit)
+{
     double ratio;
 
     if (turns < 1 || turns > TURNS_MAX)
         return 2;
-    ram = area();
-    loaded = area();
-    flash = area();
-    memset(loaded, 0, RAM_PAGES_MAX * PAGE);
     try_changed_blocks();
     for (int i = 0; i < BOARDS; i++)
         measure(i, i == LARGE_BOARD ? turns : OTHERS * turns);
     tell();
     ratio = medians[LARGE_BOARD][PROVED] / medians[LARGE_BOARD][PLAIN];
-    printf("boot: ratio %.2f (limit %s)\n", ratio, argv[2]);
-    return ratio > atof(argv[2]);
+    printf("boot: ratio %.2f (limit %s)\n", ratio, limit);
+    return ratio > atof(limit);
+}
+
+int main(int argc, char **argv)
+{
+    ram = area();
+    loaded = area();
+    flash = area();
+    memset(loaded, 0, RAM_PAGES_MAX * PAGE);
+    if (argc == 2)
+        return load_once(atoi(argv[1]));
+    return argc == 3 ? compare_all(atoi(argv[1]), argv[2]) : 2;
 }
