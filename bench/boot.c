@@ -28,7 +28,8 @@
 #define OTHERS    100 /* turns of another board for one of the large board */
 
 /* What is timed: the loaders; memset and memcpy, page by page; and parts of a
- * load: the checks, and memset and memcpy each by itself. */
+ * load: the checks, memset of each stretch that is cleared, and memcpy, page by
+ * page. */
 enum { PROVED, PLAIN, FORMS, LOADERS, FLOOR = LOADERS, CHECKS, SET, COPY, TIMED };
 
 static struct block block;
@@ -44,6 +45,12 @@ static struct page {
     uint32_t number, at, from, count;
 } pages[RAM_PAGES_MAX];
 static uint32_t page_count;
+
+/* The bytes of RAM that are cleared: from `from` up to `to`. */
+static struct stretch {
+    uint32_t from, to;
+} stretches[2 * RAM_PAGES_MAX];
+static uint32_t stretch_count;
 
 static void *area(void)
 {
@@ -69,13 +76,25 @@ static uint32_t word_at(uint32_t at)
     return b[0] | (uint32_t)b[1] << 8 | (uint32_t)b[2] << 16 | (uint32_t)b[3] << 24;
 }
 
+/* A stretch below all others; the lowest is made longer where the two touch. */
+static void list_stretch(uint32_t from, uint32_t to)
+{
+    if (from == to)
+        return;
+    if (stretch_count > 0 && stretches[stretch_count - 1].from == to)
+        stretches[stretch_count - 1].from = from;
+    else
+        stretches[stretch_count++] = (struct stretch){ from, to };
+}
+
 /* The next lower page. */
 static void list_page(uint32_t at, uint32_t from, uint32_t count)
 {
-    const uint32_t top = (uint32_t)(ram_bytes / PAGE) - TOP_PAGES;
+    const uint32_t number = (uint32_t)(ram_bytes / PAGE) - TOP_PAGES - 1 - page_count;
 
-    pages[page_count] = (struct page){ top - 1 - page_count, at, from, count };
-    page_count++;
+    pages[page_count++] = (struct page){ number, at, from, count };
+    list_stretch(number * PAGE + at + count, (number + 1) * PAGE);
+    list_stretch(number * PAGE, number * PAGE + at);
 }
 
 static void list_section(uint32_t n)
@@ -100,7 +119,7 @@ static void list_pages(uint32_t taken)
 {
     const uint32_t kernel = word_at(32 + 8);
 
-    page_count = 0;
+    page_count = stretch_count = 0;
     for (uint32_t n = kernel; n < block.sections; n++)
         list_section(n);
     for (uint32_t n = 0; n < kernel; n++)
@@ -155,8 +174,8 @@ static void run(int which)
                         RIGPOLLEN_ANSWER_WORDS);
         break;
     case SET:
-        for (uint32_t i = 0; i < page_count; i++)
-            set_around(&pages[i]);
+        for (uint32_t i = 0; i < stretch_count; i++)
+            memset(ram + stretches[i].from, 0, stretches[i].to - stretches[i].from);
         break;
     case COPY:
         for (uint32_t i = 0; i < page_count; i++)
@@ -268,7 +287,7 @@ static void try_changed_blocks(void)
 
 /* ---------------------------------------------- the tables */
 
-static void tell(void)
+static void tell_ratios(void)
 {
     printf("%-24s %9s %9s %9s %9s   %s\n", "microseconds", "proved", "plain", "forms", "floor",
            "proved to plain, to forms, to floor");
@@ -278,10 +297,17 @@ static void tell(void)
         printf("%-24s %9.2f %9.2f %9.2f %9.2f   %8.2f %9.2f %9.2f\n", boards[i].name, m[PROVED], m[PLAIN],
                m[FORMS], m[FLOOR], m[PROVED] / m[PLAIN], m[PROVED] / m[FORMS], m[PROVED] / m[FLOOR]);
     }
-    printf("%-24s %9s %9s %9s\n", "parts alone", "checks", "memset", "memcpy");
-    for (int i = 0; i < BOARDS; i++)
-        printf("%-24s %9.2f %9.2f %9.2f\n", boards[i].name, medians[i][CHECKS], medians[i][SET],
-               medians[i][COPY]);
+}
+
+static void tell_parts(void)
+{
+    printf("%-24s %9s %9s %9s %9s\n", "parts of proved", "checks", "memset", "memcpy", "rest");
+    for (int i = 0; i < BOARDS; i++) {
+        const double *m = medians[i];
+
+        printf("%-24s %9.2f %9.2f %9.2f %9.2f\n", boards[i].name, m[CHECKS], m[SET], m[COPY],
+               m[PROVED] - m[CHECKS] - m[SET] - m[COPY]);
+    }
 }
 
 static int load_once(int board)
@@ -308,7 +334,8 @@ static int compare_all(int turns, const char *limit)
     try_changed_blocks();
     for (int i = 0; i < BOARDS; i++)
         measure(i, i == LARGE_BOARD ? turns : OTHERS * turns);
-    tell();
+    tell_ratios();
+    tell_parts();
     ratio = medians[LARGE_BOARD][PROVED] / medians[LARGE_BOARD][PLAIN];
     printf("boot: ratio %.2f (limit %s)\n", ratio, limit);
     return ratio > atof(limit);
