@@ -121,9 +121,7 @@ impl Section {
     }
 
     fn holds_code_at(self, address: u32) -> bool {
-        self.flags & EXECUTABLE != 0
-            && self.address <= address
-            && (address as u64) < self.end()
+        self.flags & EXECUTABLE != 0 && self.address <= address && (address as u64) < self.end()
     }
 }
 
@@ -323,7 +321,9 @@ impl<'a> Plan<'a> {
     /// The kernel's section pages.
     pub fn kernel_pages(&self) -> usize {
         let kernel = self.records.processes().take(1);
-        kernel.map(|process| self.records.section_pages(process)).sum()
+        kernel
+            .map(|process| self.records.section_pages(process))
+            .sum()
     }
 
     /// The owners of all RAM pages, in a page that is zero.
@@ -449,7 +449,13 @@ impl<'a> Tables<'a> {
             let slot = from / ENTRIES;
             let to = end.min((slot + 1) * ENTRIES);
             let count = to - from;
-            map(self.leaf(slot), (from % ENTRIES) as usize, count as usize, page, flags);
+            map(
+                self.leaf(slot),
+                (from % ENTRIES) as usize,
+                count as usize,
+                page,
+                flags,
+            );
             page = page.wrapping_sub(count);
             from = to;
         }
@@ -519,7 +525,10 @@ pub fn load(block: &[u8], flash: &[u8], ram: &mut [u8], start: u32) -> Answer {
     let (copy, above) = above.split_at_mut(PAGE);
     let (list, above) = above.split_at_mut(PAGE);
     above[..plan.tracker * PAGE].fill(0);
-    plan.track_owners(&mut above[(plan.tracker - 1) * PAGE..plan.tracker * PAGE], pages);
+    plan.track_owners(
+        &mut above[(plan.tracker - 1) * PAGE..plan.tracker * PAGE],
+        pages,
+    );
     copy[..block.len()].copy_from_slice(block);
     copy[block.len()..].fill(0);
     list.fill(0);

@@ -14,7 +14,12 @@ struct PageAllocator {
 
 impl PageAllocator {
     fn allocate(self) -> (usize, PageAllocator) {
-        (self.left - 1, PageAllocator { left: self.left - 1 })
+        (
+            self.left - 1,
+            PageAllocator {
+                left: self.left - 1,
+            },
+        )
     }
 }
 
@@ -76,8 +81,8 @@ fn load_tracker(plan: &Plan, ram: &mut [u8], mut next: PageAllocator) -> PageAll
 }
 
 fn store(page: &mut Page, entries: &Table) {
-    for (bytes, entry) in page.chunks_exact_mut(4).zip(entries) {
-        bytes.copy_from_slice(&entry.to_le_bytes());
+    for i in 0..entries.len() {
+        page[4 * i..4 * i + 4].copy_from_slice(&entries[i].to_le_bytes());
     }
 }
 
@@ -128,7 +133,13 @@ impl<'a> Tables<'a> {
             let slot = from / ENTRIES;
             let to = end.min((slot + 1) * ENTRIES);
             let count = to - from;
-            map(self.leaf(slot), (from % ENTRIES) as usize, count as usize, page, flags);
+            map(
+                self.leaf(slot),
+                (from % ENTRIES) as usize,
+                count as usize,
+                page,
+                flags,
+            );
             page = page.wrapping_sub(count);
             from = to;
         }
@@ -150,7 +161,12 @@ fn load_tables(
     lend(ram, list).fill(0);
     for (i, process) in plan.records.processes().enumerate() {
         let (root, rest) = next.allocate();
-        list_process(lend(ram, list), i + 1, process.entry_point, base + root as u32);
+        list_process(
+            lend(ram, list),
+            i + 1,
+            process.entry_point,
+            base + root as u32,
+        );
         let mut tables = Tables {
             ram,
             base,
@@ -167,7 +183,13 @@ fn load_tables(
         if i == 0 {
             let leaf = tables.leaf(KERNEL_SLOT as u32);
             map(leaf, 0x300, 1, base + list as u32 - 1, READ);
-            map(leaf, 0x340, plan.tracker, base + tracker as u32, READ | WRITE);
+            map(
+                leaf,
+                0x340,
+                plan.tracker,
+                base + tracker as u32,
+                READ | WRITE,
+            );
             map(leaf, 0x380, 1, base + list as u32, READ);
             section_top = pages - TOP_PAGES;
         } else {
@@ -187,7 +209,9 @@ pub fn load(block: &[u8], flash: &[u8], ram: &mut [u8], start: u32) -> Answer {
         Err(refusal) => return refusal.answer(),
     };
     let pages = ram.len() / PAGE;
-    let below_top = PageAllocator { left: pages - TOP_PAGES };
+    let below_top = PageAllocator {
+        left: pages - TOP_PAGES,
+    };
     let after_sections = load_sections(plan.records, flash, ram, below_top);
     let (list, after_list) = load_tracker(&plan, ram, after_sections).allocate();
     let (copy, after_copy) = after_list.allocate();
