@@ -1,12 +1,12 @@
 -- What each loop holds, turn by turn: `Wrote`, for the pages so far.
 use mathlib.Core.Path.{_≡_, refl, sym, _∙_}
 use mathlib.Core.Bool.{Bool, true, _&&_}
-use mathlib.Core.List.{List, _∷_, []}
+use mathlib.Core.List.{List}
 use Prim.Native.Nat.{ℕ, _+_, _-_, _*_, _≤_}
 use native.Mathlib.Omega.{arith}
-use Rattle.notation.specs.Lists.{tab, gather}
 use lib.Dec.{leb}
 use borrow.Author.Tests.{leb-true}
+use Rattle.notation.specs.Lists.{gather}
 use Rattle.laws.specs.Choice.{choose-yes, and-left, and-right}
 use Rattle.rules.specs.Lent.{Image}
 use Rattle.rules.specs.Block.{processCount, sectionsOf, sectionRecord, firstSection}
