@@ -17,7 +17,7 @@ use Rattle.laws.specs.Numbers.{leb-shift}
 use Rattle.laws.specs.Lists.{tab-length, tab-get, tab-by, tab-same}
 use Rattle.block_records.specs.declared.Section.{Section}
 use Rattle.stores.specs.Writes.{copied}
-use Rattle.stores.proofs.Written.{copied-written}
+use Rattle.stores.proofs.Written.{copied-written, copied-zero}
 use Rattle.load_page.specs.Pages.{pageOf}
 
 -- A COPY AND ZEROS
@@ -27,16 +27,9 @@ cleared n = tab n (λ k. 0)
 -- zeros with s from index `at` on: past its end s counts as 0
 copied-cleared : (n at : ℕ) (s : List ℕ) → copied (cleared n) at s ≡ tab n (λ k. choose (leb at k) (getD s (k - at) 0) 0)
 copied-cleared n at s =
-    let w = copied-written (cleared n) at s in
-    tab-by n _ 0 (copied (cleared n) at s) (w .size ∙ tab-length n _) (λ k h.
-    let z : getD (cleared n) k 0 ≡ 0 = tab-get n _ k 0 h in
-    elim (decLt k at) [
-      | yes l ↦ w .below k l ∙ z ∙ sym (choose-no _ _ (lt-leb at k l))
-      | no l ↦ sym (choose-yes _ _ (le-leb at k (omega arith)) ∙ elim (decLt k (at + length s)) [
-        | yes m ↦ sym (w .inside k (omega arith) m (omega (arith, tab-length {A = ℕ} n (λ k. 0))))
-        | no m ↦ List·getD-eq-default s 0 {n = k - at} (omega arith) ∙ sym (w .above k (omega arith) ∙ z)
-      ])
-    ])
+    let l : length (cleared n) ≡ n = tab-length n _ in
+    tab-by n _ 0 (copied (cleared n) at s) (copied-written (cleared n) at s .size ∙ l) (λ k h.
+    copied-zero (cleared n) at s k (omega arith) (tab-get n _ k 0 h))
 
 pub block-page-is : (m : ℕ) {q : List ℕ} (b : List ℕ) → q ≡ copied (cleared m) 0 b → q ≡ tab m (λ k. getD b k 0)
 block-page-is m b eq = eq ∙ copied-cleared m 0 b ∙ tab-same m _ _ 0 (λ k h. choose-yes _ _ (le-leb 0 k (omega arith)) ∙ rw sub-zero)

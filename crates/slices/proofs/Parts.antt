@@ -1,15 +1,18 @@
 -- Laws of a list's parts with a bound that is cut off at the list's end.
-use mathlib.Core.Path.{_≡_, sym, ap, _∙_}
+use mathlib.Core.Path.{_≡_, refl, ap, _∙_}
+use mathlib.Core.Bool.{true}
 use mathlib.Core.List.{List, [], _∷_}
-use Prim.Native.Nat.{ℕ, zero, suc, _+_, _-_, _*_, _≤_, min}
+use Prim.Native.Nat.{ℕ, zero, suc, _+_, _-_, _*_, _≤_, _<_, min}
 use native.Mathlib.Nat.{add-zero, sub-zero, le-refl}
-use native.Mathlib.Decide.{decLt}
 use native.Mathlib.Omega.{arith}
-use lib.ListN.{length, getD, take, drop, replicate, getD-replicate, length-replicate, length-drop, List·getD-eq-default}
+use lib.Dec.{leb}
+use lib.ListN.{length, getD, take, drop, length-drop}
 use lib.Seq.{take-all, take-nil, drop-nil, getD-drop}
+use borrow.Author.Tests.{le-leb, leb-true}
 use Rattle.notation.specs.Words.{word}
+use Rattle.laws.specs.Choice.{choose-yes}
 use Rattle.stores.specs.Writes.{copied}
-use Rattle.stores.proofs.Written.{Written, copyOf, copied-written}
+use Rattle.stores.proofs.Written.{copied-zero}
 use Rattle.slices.specs.declared.FourWords.{FourWords}
 use Rattle.slices.specs.Words.{AreWords}
 
@@ -58,28 +61,17 @@ words-tail n l t r e w = record {
   fourth = w .fourth ∙ rw (e, word-drop);
 }
 
--- of a copy with zeros after it
-pub zeros-get : (n x : ℕ) → getD (replicate {A = ℕ} n 0) x 0 ≡ 0
-zeros-get n x = elim (decLt x n) [
-  | yes l ↦ getD-replicate n x 0 0 l
-  | no l ↦ List·getD-eq-default (replicate n 0) 0 {n = x} (rw length-replicate (omega arith))
-]
-
-pub padded-get : (z t p : List ℕ) → ((x : ℕ) → getD z x 0 ≡ 0) → length t ≤ length z → p ≡ copied z 0 t → (x : ℕ) → getD p x 0 ≡ getD t x 0
-padded-get z t p n h e x =
-    let w : Written (copyOf 0 t) 0 (0 + length t) z p = rw e (copied-written z 0 t) in
-    elim (decLt x (length t)) [
-      | yes l ↦ w .inside x (omega arith) (omega arith) (omega arith) ∙ rw sub-zero
-      | no l ↦ w .above x (omega arith) ∙ n x ∙ sym (List·getD-eq-default t 0 {n = x} (omega arith))
-    ]
-
-pub words-padded : (z t p : List ℕ) (r : FourWords) → ((x : ℕ) → getD z x 0 ≡ 0) → length t ≤ length z → p ≡ copied z 0 t → AreWords p 0 r → AreWords t 0 r
+-- of a copy onto 16 zeros
+pub words-padded : (z t p : List ℕ) (r : FourWords) → 16 ≤ length z → ((x : ℕ) → x < 16 → getD z x 0 ≡ 0) → p ≡ copied z 0 t → AreWords p 0 r
+    → AreWords t 0 r
 unfolding word
-words-padded z t p r n h e w =
-    let same = padded-get z t p n h e in
+words-padded z t p r h n e w =
+    let same : (x : ℕ) → x < 16 → getD p x 0 ≡ getD t x 0
+    = λ x l. rw e (copied-zero z 0 t x (omega arith) (n x l) ∙ choose-yes _ _ (le-leb 0 x (omega arith)) ∙ rw sub-zero) in
+    let at : (x : ℕ) → leb (suc x) 16 ≡ true → getD p x 0 ≡ getD t x 0 = λ x l. same x (leb-true (suc x) 16 l) in
     record {
-      first = w .first ∙ rw (same 0, same 1, same 2, same 3);
-      second = w .second ∙ rw (same 4, same 5, same 6, same 7);
-      third = w .third ∙ rw (same 8, same 9, same 10, same 11);
-      fourth = w .fourth ∙ rw (same 12, same 13, same 14, same 15);
+      first = w .first ∙ rw (at 0 refl, at 1 refl, at 2 refl, at 3 refl);
+      second = w .second ∙ rw (at 4 refl, at 5 refl, at 6 refl, at 7 refl);
+      third = w .third ∙ rw (at 8 refl, at 9 refl, at 10 refl, at 11 refl);
+      fourth = w .fourth ∙ rw (at 12 refl, at 13 refl, at 14 refl, at 15 refl);
     }

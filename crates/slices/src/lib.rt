@@ -1,6 +1,6 @@
 // Bytes and words read from lent slices: each function answers for any input.
 ghost use mathlib.Core.Path.{_≡_};
-ghost use Prim.Native.Nat.{_+_, _*_, _≤_, _<_};
+ghost use Prim.Native.Nat.{_+_, _*_, _≤_};
 ghost use lib.ListN.{length, getD, take, drop};
 ghost use Rattle.notation.specs.Words.{word};
 ghost use Rattle.slices.specs.Words.{AreWords};
@@ -52,9 +52,8 @@ fn first_words(s: &[u8]) -> FourWords
     )
 }
 
-// The first four words of bytes that end before. As a copy with zeros after it they are read without a test for each byte.
+// The first four words of any bytes, by way of a copy with zeros after it, which is read without a test for each byte.
 fn padded_words(s: &[u8]) -> FourWords
-    requires { ⌜ length (now s) < 16 ⌝ }
     ensures { λ r. ⌜ AreWords (now (s .entry)) 0 r ⌝ }
 {
     let mut padded = [0u8; 16];

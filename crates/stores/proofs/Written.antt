@@ -149,6 +149,19 @@ pub copied-written : (d : List ℕ) (at : ℕ) (s : List ℕ) → Written (copyO
 unfolding copied
 copied-written d at s = chosen-written (copyOf at s) d (between (length d) at (at + length s) (omega arith))
 
+-- onto a zero: past its end s counts as 0
+pub copied-zero : (z : List ℕ) (at : ℕ) (s : List ℕ) (k : ℕ) → k < length z → getD z k 0 ≡ 0
+    → getD (copied z at s) k 0 ≡ choose (leb at k) (getD s (k - at) 0) 0
+copied-zero z at s k h o =
+    let w = copied-written z at s in
+    elim (decLt k at) [
+      | yes l ↦ w .below k l ∙ o ∙ sym (choose-no _ _ (lt-leb at k l))
+      | no l ↦ sym (choose-yes _ _ (le-leb at k (omega arith)) ∙ elim (decLt k (at + length s)) [
+        | yes m ↦ sym (w .inside k (omega arith) m h)
+        | no m ↦ List·getD-eq-default s 0 {n = k - at} (omega arith) ∙ sym (w .above k (omega arith) ∙ o)
+      ])
+    ]
+
 -- the first n bytes of s
 pub copied-taken : {d₀ d : List ℕ} {at i : ℕ} (n : ℕ) (s : List ℕ) → Written (copyOf at s) at (at + i) d₀ d → i ≡ n → n ≤ length s → at + n ≤ length d₀ → d ≡ copied d₀ at (take n s)
 copied-taken {at = at} n s w e h l = copied-is (take n s)

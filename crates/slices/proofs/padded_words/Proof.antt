@@ -1,5 +1,6 @@
 use native.Mathlib.Omega.{arith}
-use Rattle.slices.proofs.Parts.{zeros-get, words-padded}
+use lib.ListN.{getD-replicate}
+use Rattle.slices.proofs.Parts.{words-padded}
 use borrow.Author.Needs.{needs}
 use Rattle.slices.proofs.padded_words.Statement.{statement}
 use Rattle.slices.proofs.padded_words.Tie as tie
@@ -17,7 +18,7 @@ first-words-requires : tie.Need-first-words-requires
 first-words-requires c κs = search needs
 
 returns : tie.Need-returns
-returns c = words-padded _ _ _ _ (zeros-get 16) (omega arith) (c .before .before .before .copy-in .ensures) (c .first-words .ensures)
+returns c = words-padded _ _ _ _ (omega arith) (λ x l. getD-replicate 16 x 0 0 l) (c .before .before .before .copy-in .ensures) (c .first-words .ensures)
 
 pub padded-words-spec : {M : Type 1} → statement M
 padded-words-spec =
