@@ -34,6 +34,7 @@ pub struct Answer {
     pub taken: u32,
     pub free: u32,
     pub tracker: u32,
+    pub offset: u32,
 }
 
 fn word(bytes: &[u8], at: usize) -> u32 {
@@ -125,14 +126,15 @@ impl Section {
     }
 }
 
-/// A refusal's number and place.
-pub struct Refusal(u32, usize);
+/// A refusal: its number, its place, and the byte offset in the block of the refused record.
+pub struct Refusal(u32, usize, usize);
 
 impl Refusal {
     pub fn answer(self) -> Answer {
         Answer {
             number: self.0,
             place: self.1 as u32,
+            offset: self.2 as u32,
             ..Answer::default()
         }
     }
@@ -150,14 +152,14 @@ impl<'a> Records<'a> {
     /// Refusals 2 to 5.
     fn read(block: &'a [u8]) -> Result<Records<'a>, Refusal> {
         if block.len() < 32 {
-            return Err(Refusal(2, 0));
+            return Err(Refusal(2, 0, 0));
         }
         if word(block, 0) != 1 {
-            return Err(Refusal(3, 0));
+            return Err(Refusal(3, 0, 0));
         }
         let (p, s, r) = (word(block, 8), word(block, 16), word(block, 24));
         if p.wrapping_sub(1) > 15 || s.wrapping_sub(1) > 63 || r > 32 {
-            return Err(Refusal(4, 0));
+            return Err(Refusal(4, 0, 0));
         }
         let sections_at = 32 + 16 * p;
         let regions_at = sections_at + 16 * s;
@@ -168,7 +170,7 @@ impl<'a> Records<'a> {
             || word(block, 4) != length
             || block.len() != length as usize
         {
-            return Err(Refusal(5, 0));
+            return Err(Refusal(5, 0, 0));
         }
         let (rest, regions) = block.split_at(regions_at as usize);
         let (rest, sections) = rest.split_at(sections_at as usize);
@@ -199,21 +201,34 @@ impl<'a> Records<'a> {
         self.sections(process).map(Section::pages).sum()
     }
 
+    fn refuse_process(self, number: u32, i: usize) -> Refusal {
+        Refusal(number, i, 32 + 16 * i)
+    }
+
+    fn refuse_section(self, number: u32, n: usize) -> Refusal {
+        Refusal(number, n, 32 + self.processes.len() + 16 * n)
+    }
+
+    fn refuse_region(self, number: u32, i: usize) -> Refusal {
+        let regions_at = 32 + self.processes.len() + self.sections.len();
+        Refusal(number, i, regions_at + 8 * i)
+    }
+
     /// Refusal 6.
     fn check_processes(self) -> Result<(), Refusal> {
         let s = self.sections.len() as u64 / 16;
         let mut sum = 0u64;
         for (i, process) in self.processes().enumerate() {
             if process.kind != 0 || process.sections == 0 || process.first as u64 != sum {
-                return Err(Refusal(6, i));
+                return Err(self.refuse_process(6, i));
             }
             sum += process.sections as u64;
             if sum > s {
-                return Err(Refusal(6, i));
+                return Err(self.refuse_process(6, i));
             }
         }
         if sum != s {
-            return Err(Refusal(6, self.process_count() - 1));
+            return Err(self.refuse_process(6, self.process_count() - 1));
         }
         Ok(())
     }
@@ -230,15 +245,15 @@ impl<'a> Records<'a> {
             let mut above = 0;
             for section in self.sections(process) {
                 if section.unfit() {
-                    return Err(Refusal(7, n));
+                    return Err(self.refuse_section(7, n));
                 }
                 if section.address < first || section.end() > end || section.first_page() < above {
-                    return Err(Refusal(8, n));
+                    return Err(self.refuse_section(8, n));
                 }
                 above = section.last_page() + 1;
                 let flash_end = section.flash_offset as u64 + section.size as u64;
                 if section.flags & NOCOPY == 0 && flash_end > flash {
-                    return Err(Refusal(9, n));
+                    return Err(self.refuse_section(9, n));
                 }
                 n += 1;
             }
@@ -253,7 +268,7 @@ impl<'a> Records<'a> {
                 .sections(process)
                 .any(|section| section.holds_code_at(process.entry_point))
             {
-                return Err(Refusal(10, i));
+                return Err(self.refuse_process(10, i));
             }
         }
         Ok(())
@@ -274,7 +289,7 @@ impl<'a> Records<'a> {
                 || start.max(ram_start) < end.min(ram_end)
                 || total > 4096
             {
-                return Err(Refusal(11, i));
+                return Err(self.refuse_region(11, i));
             }
             previous_end = end;
         }
@@ -315,6 +330,7 @@ impl<'a> Plan<'a> {
             taken: self.needed as u32,
             free: (pages - self.needed) as u32,
             tracker: self.tracker as u32,
+            offset: 0,
         }
     }
 
@@ -342,7 +358,7 @@ impl<'a> Plan<'a> {
 pub fn check<'a>(block: &'a [u8], flash: u64, ram: usize, start: u32) -> Result<Plan<'a>, Refusal> {
     let ram_end = start as u64 + ram as u64;
     if ram % PAGE != 0 || ram / PAGE > 4096 || start % 4096 != 0 || ram_end > SPACE {
-        return Err(Refusal(1, 0));
+        return Err(Refusal(1, 0, 0));
     }
     let records = Records::read(block)?;
     records.check_processes()?;
@@ -354,7 +370,7 @@ pub fn check<'a>(block: &'a [u8], flash: u64, ram: usize, start: u32) -> Result<
     // The process list and the copy of the block have a page each.
     let needed = TOP_PAGES + records.count_pages() + tracker + 2;
     if needed > pages {
-        return Err(Refusal(12, 0));
+        return Err(Refusal(12, 0, 0));
     }
     Ok(Plan {
         records,

@@ -6,16 +6,17 @@
 //! The number of cases, and the damage (0; rv32/cases.c). Then of each case:
 //!
 //! - its number in the run; RAM's start and length in bytes; the block's and flash's length
-//! - the answer's five words
+//! - the answer's six words
 //! - how many calls for a process, and of each the process, the number returned, how many words it puts, and three words
 //! - walks by way of the loaded tables: how many, and of each the root's page number, the address, what is returned, and two words
 //! - the bytes of the block and of flash
 //! - of each page of RAM (the last may be cut) what it is after the load: 0 as before, 1 zero, 2 other bytes, and then these
 //! - tables that no loader writes: where they start, their length, their bytes, and walks on them
-//! - how many calls of the block writer, and of each the words of its three lists and the bytes of its buffer, the answer's three words,
+//! - how many calls of the block writer, and of each the words of its three lists and the bytes of its buffer, the answer's four words,
 //!   the lists, and what is written
 
 use crate::cases::{self, Case};
+use crate::check;
 use crate::lists;
 use crate::reader;
 use crate::rng::Rng;
@@ -170,11 +171,13 @@ fn write_writings(
         out.words(&job.lists.each_ref().map(|list| list.len() as u32));
         out.words(&[buffer.len() as u32]);
         out.mark("writer's answer");
-        out.words(&want.answer);
+        out.words(&want.answer[..3]);
+        out.mark("writer's offset");
+        out.words(&want.answer[3..]);
         job.lists.iter().for_each(|list| out.words(list));
         out.mark("written block");
         out.padded(&want.buffer[..want.answer[2] as usize]);
-        numbers.count(want.answer[0]);
+        numbers.count(want.answer);
     }
 }
 
@@ -183,7 +186,9 @@ fn write_case(out: &mut Out, number: u64, case: &Case, want: &Outcome, rng: &mut
     out.words(&[number as u32, case.start]);
     out.words(&lengths);
     out.mark("answer");
-    out.words(&want.answer);
+    out.words(&want.answer[..5]);
+    out.mark("offset");
+    out.words(&want.answer[5..]);
     write_processes(out, want);
     write_walks(out, case, want, rng);
     out.padded(&case.block);
@@ -214,7 +219,7 @@ pub fn write(path: &str, seed: u64, count: u64) -> Result<(), String> {
     let failed = |error| format!("{path}: {error}");
     let mut file = BufWriter::new(File::create(path).map_err(failed)?);
     let mut out = Out::default();
-    let mut numbers = [0; 13];
+    let mut numbers = check::Numbers::default();
     let mut writings = writer::Numbers::default();
     out.words(&[count as u32, 0]);
     for (number, case) in drawn(seed, count) {
@@ -229,20 +234,16 @@ pub fn write(path: &str, seed: u64, count: u64) -> Result<(), String> {
         }
         file.write_all(&out.bytes).map_err(failed)?;
         out.bytes.clear();
-        numbers[want.answer[0] as usize] += 1;
+        numbers.count(&case, &want);
     }
     file.flush().map_err(failed)?;
-    if let Some(number) = numbers.iter().position(|&n| n == 0 && count >= 1000) {
-        return Err(format!("number {number} never came up in {count} cases"));
-    }
-    if let Some(number) = writings.missing().filter(|_| count >= 1000) {
-        return Err(format!(
-            "the writer's number {number} never came up in {count} cases"
-        ));
+    let missing = numbers.missing().or(writings.missing());
+    if let Some(never) = missing.filter(|_| count >= 1000) {
+        return Err(format!("{never} never came up in {count} cases"));
     }
     println!(
-        "compare: {count} cases of seed {seed} written; by number {numbers:?}; the writer's {:?}",
-        writings.0
+        "compare: {count} cases of seed {seed} written; by number {:?}; the writer's {:?}",
+        numbers.all, writings.all
     );
     Ok(())
 }

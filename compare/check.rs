@@ -9,11 +9,36 @@ use crate::rules::{self, Boot, Fault, Outcome, Sight, PAGE};
 use crate::walker::{self, Found};
 use crate::writer;
 
+/// Cases by the number of their answer.
+#[derive(Default)]
+pub struct Numbers {
+    pub all: [u64; 13],
+    /// Those refused at a record after the first where there is more than one process: a wrong offset shows there.
+    pub later: [u64; 13],
+}
+
+impl Numbers {
+    pub fn count(&mut self, case: &Case, want: &Outcome) {
+        let [number, place, ..] = want.answer;
+        self.all[number as usize] += 1;
+        // A record is refused only after 2 to 5: byte 8 is the process count.
+        let later = place > 0 && case.block[8] > 1;
+        self.later[number as usize] += u64::from(later);
+    }
+
+    /// What never came up.
+    pub fn missing(&self) -> Option<String> {
+        let all = self.all.iter().position(|&count| count == 0);
+        let later = (6..=11).find(|&number| self.later[number] == 0);
+        all.map(|number| format!("number {number}"))
+            .or(later.map(|number| format!("number {number} after record 0")))
+    }
+}
+
 /// What a run has compared so far.
 #[derive(Default)]
 pub struct Tally {
-    /// Cases by the number of their answer.
-    pub numbers: [u64; 13],
+    pub numbers: Numbers,
     pub walks: u64,
     /// Pairs of RAMs on which a block boots, and those whose new RAM draws 1 or 11.
     pub pairs: u64,
@@ -26,7 +51,7 @@ pub struct Tally {
 pub fn compare(case: &Case, fault: Fault, rng: &mut Rng, tally: &mut Tally) -> Result<(), String> {
     let want = rules::load(&case.block, &case.flash, &case.ram, case.start, fault);
     let mut ram = compare_load(case, &want, rng)?;
-    tally.numbers[want.answer[0] as usize] += 1;
+    tally.numbers.count(case, &want);
     if let Some(boot) = &want.boot {
         for process in boot.plan.processes() {
             compare_view(boot, &mut ram, case.start, process, rng, tally)?;
@@ -52,9 +77,10 @@ pub fn compare(case: &Case, fault: Fault, rng: &mut Rng, tally: &mut Tally) -> R
 pub fn compare_load(case: &Case, want: &Outcome, rng: &mut Rng) -> Result<Lent, String> {
     let mut block = Lent::new(&case.block, rng.index(8));
     let mut flash = Lent::new(&case.flash, rng.index(8));
-    let mut lengths = vec![5 + rng.index(3)];
+    let whole = want.answer.len();
+    let mut lengths = vec![whole + rng.index(3)];
     if rng.chance(50) {
-        lengths.push(rng.index(5));
+        lengths.push(rng.index(whole));
     }
     let mut first = None;
     for len in lengths {
@@ -92,7 +118,7 @@ fn compare_without_ram(
         start: case.start,
         len: case.ram.len(),
     };
-    let len = rng.index(8);
+    let len = rng.index(9);
     let got = ffi::check(block, flash, ram, len);
     compare_words("rigpollen_check", got, len, want.answer[0], &want.answer)?;
     let last = want

@@ -162,8 +162,8 @@ impl LentWords {
 
 /// Where the slice begins among the words.
 pub const ANSWER_AT: usize = 4;
-/// The words of an `answer` or `words` slice of up to 7 words, with guard words on both sides.
-pub type AnswerWords = [u32; 15];
+/// The words of an `answer` or `words` slice of up to 8 words, with guard words on both sides.
+pub type AnswerWords = [u32; 16];
 
 /// What the words must be after a call that puts `answer` into a slice of `len` words.
 pub fn answer_words(answer: &[u32], len: usize) -> AnswerWords {
@@ -391,11 +391,11 @@ impl Far {
         })
     }
 
-    /// The number returned, place and length.
-    pub fn write_block(&mut self, words: [u64; 3], room: u64) -> [u32; 3] {
+    /// The number returned, place, length and offset.
+    pub fn write_block(&mut self, words: [u64; 3], room: u64) -> [u32; 4] {
         let most = *words.iter().max().unwrap_or(&0);
         assert!(most <= Self::LIST_BYTES as u64 / 4 && room <= Self::BUFFER_BYTES as u64);
-        let mut answer = [u32::MAX; 3];
+        let mut answer = [u32::MAX; 4];
         // The areas are as long as is said; the lists may share their bytes.
         let number = unsafe {
             rigpollen_write_block(
@@ -408,10 +408,10 @@ impl Far {
                 self.buffer,
                 room,
                 answer.as_mut_ptr(),
-                3,
+                answer.len() as u64,
             )
         };
-        [number, answer[1], answer[2]]
+        [number, answer[1], answer[2], answer[3]]
     }
 
     /// The buffer's first page.

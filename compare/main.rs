@@ -90,9 +90,10 @@ fn compare_cases(options: &Options) -> Result<(), String> {
     for number in 0..options.cases {
         one_case(options.seed, number, Fault::None, &mut tally)?;
     }
-    println!("number  cases");
-    for (number, count) in tally.numbers.iter().enumerate() {
-        println!("{number:6}  {count}");
+    println!("number  cases  after record 0");
+    let numbers = &tally.numbers;
+    for (number, count) in numbers.all.iter().enumerate() {
+        println!("{number:6}  {count:5}  {:14}", numbers.later[number]);
     }
     println!("walks compared: {}", tally.walks);
     println!(
@@ -101,9 +102,10 @@ fn compare_cases(options: &Options) -> Result<(), String> {
     );
     let writer = &tally.writer;
     println!("writer's number  cases");
-    for (number, count) in writer.numbers.0 {
+    for (number, count) in writer.numbers.all {
         println!("{number:15}  {count}");
     }
+    println!("writer's 6 after record 0: {}", writer.numbers.later);
     println!(
         "written and read: {}; blocks written back from their records: {}",
         writer.read_back, writer.written_back
@@ -113,14 +115,11 @@ fn compare_cases(options: &Options) -> Result<(), String> {
     Ok(())
 }
 
-/// Every number of the loader and of the writer, and both round trips.
+/// Every number of the loader and of the writer, those of a record also after record 0, and both round trips.
 fn all_came_up(tally: &Tally) -> Result<(), String> {
-    if let Some(number) = tally.numbers.iter().position(|&count| count == 0) {
-        return Err(format!("number {number} never came up"));
-    }
     let writer = &tally.writer;
-    if let Some(number) = writer.numbers.missing() {
-        return Err(format!("the writer's number {number} never came up"));
+    if let Some(never) = tally.numbers.missing().or(writer.numbers.missing()) {
+        return Err(format!("{never} never came up"));
     }
     if writer.read_back == 0 || writer.written_back == 0 {
         return Err("no block was read back, or none written back,".to_string());

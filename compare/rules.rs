@@ -36,7 +36,8 @@ fn page_flags(rights: u32) -> u32 {
     1 | rights << 1 | 64 | dirty
 }
 
-/// Faults that can be switched on here to try the comparison: 01's five (the third has two halves), and those of the block writer.
+/// Faults that can be switched on here to try the comparison: 01's five (the third has two halves), those of the block writer, and
+/// those of a record's offset.
 #[derive(Clone, Copy, PartialEq, Eq)]
 pub enum Fault {
     None,
@@ -51,9 +52,12 @@ pub enum Fault {
     TailCleared,
     SixBefore22,
     PartRecordDropped,
+    ProcessesSkipped,
+    RegionsOfSixteen,
+    WrittenWithoutOffset,
 }
 
-pub const FAULTS: [(Fault, &str); 11] = [
+pub const FAULTS: [(Fault, &str); 14] = [
     (
         Fault::PartBeforeKept,
         "1 the part of a page before the section is not cleared",
@@ -91,6 +95,18 @@ pub const FAULTS: [(Fault, &str); 11] = [
     (
         Fault::PartRecordDropped,
         "A2 words after the last whole record are dropped",
+    ),
+    (
+        Fault::ProcessesSkipped,
+        "A5 a section record's offset is without the process records",
+    ),
+    (
+        Fault::RegionsOfSixteen,
+        "A5 a region record's offset is by 16 bytes a record",
+    ),
+    (
+        Fault::WrittenWithoutOffset,
+        "A5 the writer's 6 has offset 0",
     ),
 ];
 
@@ -193,14 +209,47 @@ impl Board {
     pub fn io_pages(&self) -> u64 {
         self.regions.iter().map(|region| region.pages).sum()
     }
+
+    /// The tight offsets and length of its block.
+    fn tight(&self) -> [u64; 4] {
+        let counts = [
+            self.processes.len(),
+            self.sections.len(),
+            self.regions.len(),
+        ];
+        tight(counts.map(|count| count as u64))
+    }
 }
 
-/// A refusal: its number and place.
-pub struct Refusal(pub u32, pub u32);
+/// A record that is checked: its place, and by 02 (A5) "the byte offset of the record within the block".
+#[derive(Clone, Copy)]
+pub struct Record {
+    pub place: u32,
+    pub offset: u32,
+}
 
-fn refuse_if(cause: bool, number: u32, place: usize) -> Result<(), Refusal> {
+impl Record {
+    /// "On success and for every number but 6 to 11, place and offset are 0."
+    pub const NONE: Record = Record {
+        place: 0,
+        offset: 0,
+    };
+
+    /// Record `i` of the list at byte `list` of the block, whose records have so many bytes.
+    fn nth(i: usize, list: u64, bytes: u64) -> Record {
+        Record {
+            place: i as u32,
+            offset: (list + bytes * i as u64) as u32,
+        }
+    }
+}
+
+/// A refusal: its number and the refused record.
+pub struct Refusal(pub u32, pub Record);
+
+fn refuse_if(cause: bool, number: u32, record: Record) -> Result<(), Refusal> {
     if cause {
-        Err(Refusal(number, place as u32))
+        Err(Refusal(number, record))
     } else {
         Ok(())
     }
@@ -238,26 +287,26 @@ pub fn tight([p, s, r]: [u64; 3]) -> [u64; 4] {
 pub fn read_board(block: &[u8], flash_len: u64, ram: Ram) -> Result<Board, Refusal> {
     let bad_ram =
         ram.len % PAGE != 0 || ram.pages() > 4096 || ram.from() % PAGE != 0 || ram.to() > END;
-    refuse_if(bad_ram, 1, 0)?;
+    refuse_if(bad_ram, 1, Record::NONE)?;
     let board = read_block(block)?;
-    check_sections(&board.processes, &board.sections, flash_len)?;
+    check_sections(&board, flash_len)?;
     check_entries(&board)?;
-    check_regions(&board.regions, ram)?;
+    check_regions(&board, ram)?;
     Ok(board)
 }
 
 /// Refusals 2 to 6: the block's records.
 pub fn read_block(block: &[u8]) -> Result<Board, Refusal> {
-    refuse_if(block.len() < 32, 2, 0)?;
+    refuse_if(block.len() < 32, 2, Record::NONE)?;
     let [format, length, p, p_at, s, s_at, r, r_at] = words::<8>(block, 0);
-    refuse_if(format != 1, 3, 0)?;
+    refuse_if(format != 1, 3, Record::NONE)?;
     let counts = [p, s, r].map(u64::from);
-    refuse_if(!within_bounds(counts), 4, 0)?;
+    refuse_if(!within_bounds(counts), 4, Record::NONE)?;
     let tight = tight(counts);
     refuse_if(
         [p_at, s_at, r_at, length].map(u64::from) != tight || block.len() as u64 != tight[3],
         5,
-        0,
+        Record::NONE,
     )?;
     let processes = read_processes(block, p as usize, s as usize)?;
     let sections = (0..s as usize)
@@ -289,14 +338,15 @@ pub fn read_processes(block: &[u8], p: usize, s: usize) -> Result<Vec<Process>, 
     let mut processes = Vec::new();
     let mut sum = 0u64;
     for i in 0..p {
-        let [entry, first, count, kind] = words::<4>(block, 32 + 16 * i);
+        let record = Record::nth(i, 32, 16);
+        let [entry, first, count, kind] = words::<4>(block, record.offset as usize);
         let after = sum + u64::from(count);
         let wrong = kind != 0
             || count == 0
             || u64::from(first) != sum
             || after > s as u64
             || (i + 1 == p && after != s as u64);
-        refuse_if(wrong, 6, i)?;
+        refuse_if(wrong, 6, record)?;
         processes.push(Process {
             entry,
             sections: sum as usize..after as usize,
@@ -307,29 +357,27 @@ pub fn read_processes(block: &[u8], p: usize, s: usize) -> Result<Vec<Process>, 
 }
 
 /// Refusals 7, 8 and 9, all three for one section before the next.
-fn check_sections(
-    processes: &[Process],
-    sections: &[Section],
-    flash_len: u64,
-) -> Result<(), Refusal> {
-    for (owner, process) in processes.iter().enumerate() {
+fn check_sections(board: &Board, flash_len: u64) -> Result<(), Refusal> {
+    let [_, list, ..] = board.tight();
+    for (owner, process) in board.processes.iter().enumerate() {
         let range = if owner == 0 { KERNEL } else { USER };
         let mut previous: Option<&Section> = None;
         for i in process.sections.clone() {
-            let section = &sections[i];
+            let section = &board.sections[i];
+            let record = Record::nth(i, list, 16);
             let malformed = section.size == 0
                 || section.flags > 7
                 || (section.has(WRITABLE) && section.has(EXECUTABLE))
                 || (section.has(NOCOPY) && section.offset != 0);
-            refuse_if(malformed, 7, i)?;
+            refuse_if(malformed, 7, record)?;
             let misplaced = section.va < range.start
                 || section.end() > range.end
                 || previous.is_some_and(|before| section.va / PAGE <= before.last_page());
-            refuse_if(misplaced, 8, i)?;
+            refuse_if(misplaced, 8, record)?;
             refuse_if(
                 !section.has(NOCOPY) && section.offset + section.size > flash_len,
                 9,
-                i,
+                record,
             )?;
             previous = Some(section);
         }
@@ -339,21 +387,23 @@ fn check_sections(
 
 /// Refusal 10.
 fn check_entries(board: &Board) -> Result<(), Refusal> {
+    let [list, ..] = board.tight();
     for (i, process) in board.processes.iter().enumerate() {
         let entry = u64::from(process.entry);
         let inside = board.sections[process.sections.clone()]
             .iter()
             .any(|section| section.has(EXECUTABLE) && section.va <= entry && entry < section.end());
-        refuse_if(!inside, 10, i)?;
+        refuse_if(!inside, 10, Record::nth(i, list, 16))?;
     }
     Ok(())
 }
 
 /// Refusal 11.
-fn check_regions(regions: &[Region], ram: Ram) -> Result<(), Refusal> {
+fn check_regions(board: &Board, ram: Ram) -> Result<(), Refusal> {
+    let [_, _, list, _] = board.tight();
     let mut before = 0;
     let mut total = 0;
-    for (i, region) in regions.iter().enumerate() {
+    for (i, region) in board.regions.iter().enumerate() {
         let (start, pages) = (region.start, region.pages);
         let end = start + PAGE * pages;
         total += pages;
@@ -364,7 +414,7 @@ fn check_regions(regions: &[Region], ram: Ram) -> Result<(), Refusal> {
             || start < before
             || meets_ram
             || total > 4096;
-        refuse_if(wrong, 11, i)?;
+        refuse_if(wrong, 11, Record::nth(i, list, 8))?;
         before = end;
     }
     Ok(())
@@ -722,12 +772,26 @@ impl Boot {
     }
 }
 
-/// The whole of what 01 says about one call: number, place, pages taken, pages free, tracker pages;
+/// The whole of what 01 says about one call: number, place, pages taken, pages free, tracker pages, and 02's (A5) offset;
 /// RAM afterwards; and what the processes see if it boots.
 pub struct Outcome {
-    pub answer: [u32; 5],
+    pub answer: [u32; 6],
     pub image: Vec<u8>,
     pub boot: Option<Boot>,
+}
+
+/// "On refusal the three counts are 0."
+fn refused(Refusal(number, record): Refusal, image: Vec<u8>, fault: Fault) -> Outcome {
+    let offset = match (fault, number) {
+        (Fault::ProcessesSkipped, 7..=9) => 32 + 16 * record.place,
+        (Fault::RegionsOfSixteen, 11) => record.offset + 8 * record.place,
+        _ => record.offset,
+    };
+    Outcome {
+        answer: [number, record.place, 0, 0, 0, offset],
+        image,
+        boot: None,
+    }
 }
 
 pub fn load(block: &[u8], flash: &[u8], ram: &[u8], start: u32, fault: Fault) -> Outcome {
@@ -738,24 +802,14 @@ pub fn load(block: &[u8], flash: &[u8], ram: &[u8], start: u32, fault: Fault) ->
     let mut image = ram.to_vec();
     let board = match read_board(block, flash.len() as u64, lent) {
         Ok(board) => board,
-        Err(Refusal(number, place)) => {
-            return Outcome {
-                answer: [number, place, 0, 0, 0],
-                image,
-                boot: None,
-            };
-        }
+        Err(refusal) => return refused(refusal, image, fault),
     };
     let plan = Plan::new(board, lent, fault);
     if plan.needed() > lent.pages() {
         if fault == Fault::CopyThenRefuse {
             copy_while_it_lasts(&plan, flash, &mut image);
         }
-        return Outcome {
-            answer: [12, 0, 0, 0, 0],
-            image,
-            boot: None,
-        };
+        return refused(Refusal(12, Record::NONE), image, fault);
     }
     let contents = plan.contents(block, flash);
     for (page, bytes) in plan.order.iter().zip(&contents) {
@@ -770,6 +824,7 @@ pub fn load(block: &[u8], flash: &[u8], ram: &[u8], start: u32, fault: Fault) ->
         plan.needed() as u32,
         free as u32,
         plan.tracker_pages as u32,
+        0,
     ];
     Outcome {
         answer,

@@ -8,8 +8,9 @@ use crate::writer;
 pub struct Marked {
     pub name: &'static str,
     pub draft: Draft,
-    /// Number, place and free pages that 01 gives.
-    expected: [u32; 3],
+    /// Number, place and free pages that 01 gives, and 02's (A5) offset: process record i is at byte 32 + 16i of this block, section
+    /// record n at 64 + 16n, region record i at 112 + 8i.
+    expected: [u32; 4],
 }
 
 fn board() -> Draft {
@@ -54,54 +55,54 @@ fn board() -> Draft {
 pub fn marked(number: u64) -> Option<Marked> {
     let mut draft = board();
     let (name, expected) = match number {
-        0 => ("P1", [0, 0, 1]),
+        0 => ("P1", [0, 0, 1, 0]),
         1 => {
             draft.ram_len = 15 * PAGE;
-            ("P2", [0, 0, 0])
+            ("P2", [0, 0, 0, 0])
         }
         2 => {
             draft.ram_len = 14 * PAGE;
-            ("P3", [12, 0, 0])
+            ("P3", [12, 0, 0, 0])
         }
         3 => {
             draft.length = Some(0);
-            ("P4", [2, 0, 0])
+            ("P4", [2, 0, 0, 0])
         }
         4 => {
             draft.processes[1].entry = 0x0001_005f;
-            ("P5", [0, 0, 1])
+            ("P5", [0, 0, 1, 0])
         }
         5 => {
             draft.processes[1].entry = 0x0001_0060;
-            ("P6", [10, 1, 0])
+            ("P6", [10, 1, 0, 48])
         }
         6 => {
             draft.flash_len = 319;
-            ("P7", [9, 1, 0])
+            ("P7", [9, 1, 0, 80])
         }
         7 => {
             draft.sections[2].va = 0x0001_0060;
-            ("P8", [8, 2, 0])
+            ("P8", [8, 2, 0, 96])
         }
         8 => {
             draft.sections[2].va = 0x0001_1000;
-            ("P9", [0, 0, 1])
+            ("P9", [0, 0, 1, 0])
         }
         9 => {
             draft.sections[2].va = 0x7fff_b000;
-            ("P10", [0, 0, 1])
+            ("P10", [0, 0, 1, 0])
         }
         10 => {
             draft.sections[2].va = 0x7fff_b001;
-            ("P11", [8, 2, 0])
+            ("P11", [8, 2, 0, 96])
         }
         11 => {
             draft.regions[0].start = 0x4000_f000;
-            ("P12 inside", [11, 0, 0])
+            ("P12 inside", [11, 0, 0, 112])
         }
         12 => {
             draft.regions[0].start = 0x4001_0000;
-            ("P12 after", [0, 0, 1])
+            ("P12 after", [0, 0, 1, 0])
         }
         _ => return None,
     };
@@ -126,10 +127,10 @@ pub fn check_rules() -> Result<(), String> {
             vec![0xee; draft.ram_len as usize],
         );
         let answer = rules::load(&draft.block(), &flash, &ram, draft.start, Fault::None).answer;
-        let got = [answer[0], answer[1], answer[3]];
+        let got = [answer[0], answer[1], answer[3], answer[5]];
         if got != marked.expected {
             return Err(format!(
-                "{} of 01: the rules here give {got:?}, 01 gives {:?}",
+                "{} of 01: the rules here give {got:?}, the papers {:?}",
                 marked.name, marked.expected
             ));
         }
@@ -180,20 +181,28 @@ pub fn check_rules() -> Result<(), String> {
     check_writer(&draft)
 }
 
-/// "Block 120 bytes: p 2 at 32, s 3 at 64, r 1 at 112": from its records, the writer here makes it in a buffer of 121 bytes.
+/// "Block 120 bytes: p 2 at 32, s 3 at 64, r 1 at 112": from its records, the writer here makes it in a buffer of 121 bytes. With kind 1
+/// in process record 1 it refuses 6 at 1, byte 48.
 fn check_writer(draft: &Draft) -> Result<(), String> {
     let block = draft.block();
     let words: Vec<u32> = (0..30).map(|i| word(&block, 0, i)).collect();
-    let lists = [&words[8..16], &words[16..28], &words[28..30]].map(<[u32]>::to_vec);
+    let mut lists = [&words[8..16], &words[16..28], &words[28..30]].map(<[u32]>::to_vec);
     let written = writer::write(&lists, &[0xee; 121], Fault::None);
     let header: [u32; 8] = std::array::from_fn(|i| word(&written.buffer, 0, i));
-    if written.answer != [0, 0, 120]
+    if written.answer != [0, 0, 120, 0]
         || header != [1, 120, 2, 32, 3, 64, 1, 112]
         || written.buffer != [&block[..], &[0xee]].concat()
     {
         return Err(format!(
             "small board: the writer here gives {:?} and the header {header:?}",
             written.answer
+        ));
+    }
+    lists[0][7] = 1;
+    let refused = writer::write(&lists, &[0xee; 121], Fault::None).answer;
+    if refused != [6, 1, 0, 48] {
+        return Err(format!(
+            "small board, kind 1: the writer here gives {refused:?}"
         ));
     }
     Ok(())

@@ -6,33 +6,43 @@ use crate::check::{self, compare_words};
 use crate::ffi::{self, Lent, LentWords};
 use crate::lists;
 use crate::rng::Rng;
-use crate::rules::{self, Board, Fault, Refusal, PAGE};
+use crate::rules::{self, Board, Fault, Record, Refusal, PAGE};
 
 /// The words of the process, section and region records.
 pub type Lists = [Vec<u32>; 3];
 pub const RECORD_WORDS: [usize; 3] = [4, 4, 2];
 const LIST_NAMES: [&str; 3] = ["process", "section", "region"];
 
-/// How often each number of the writer came up.
-pub struct Numbers(pub [(u32, u64); 4]);
+/// How often each number of the writer came up, and 6 at a record after the first, where a wrong offset shows.
+pub struct Numbers {
+    pub all: [(u32, u64); 4],
+    pub later: u64,
+}
 
 impl Default for Numbers {
     fn default() -> Numbers {
-        Numbers([0, 6, 21, 22].map(|number| (number, 0)))
+        Numbers {
+            all: [0, 6, 21, 22].map(|number| (number, 0)),
+            later: 0,
+        }
     }
 }
 
 impl Numbers {
-    pub fn count(&mut self, number: u32) {
-        let counts = self.0.iter_mut().filter(|(known, _)| *known == number);
+    pub fn count(&mut self, [number, place, ..]: [u32; 4]) {
+        let counts = self.all.iter_mut().filter(|(known, _)| *known == number);
         counts.for_each(|(_, count)| *count += 1);
+        self.later += u64::from(number == 6 && place > 0);
     }
 
-    /// A number that never came up.
-    pub fn missing(&self) -> Option<u32> {
-        self.0
-            .iter()
-            .find_map(|&(number, count)| (count == 0).then_some(number))
+    /// What never came up.
+    pub fn missing(&self) -> Option<String> {
+        let never = self.all.iter().find(|(_, count)| *count == 0);
+        match never {
+            Some((number, _)) => Some(format!("the writer's number {number}")),
+            None if self.later == 0 => Some("the writer's 6 after record 0".to_string()),
+            None => None,
+        }
     }
 }
 
@@ -49,9 +59,9 @@ pub struct Tally {
 
 // The rules
 
-/// Number, place and length; and the buffer afterwards.
+/// Number, place, length and offset; and the buffer afterwards.
 pub struct Written {
-    pub answer: [u32; 3],
+    pub answer: [u32; 4],
     pub buffer: Vec<u8>,
 }
 
@@ -64,16 +74,20 @@ pub fn write(lists: &Lists, buffer: &[u8], fault: Fault) -> Written {
             if fault == Fault::TailCleared {
                 tail.fill(0);
             }
-            [0, 0, block.len() as u32]
+            [0, 0, block.len() as u32, 0]
         }
-        Err(Refusal(number, place)) => {
+        Err(Refusal(number, record)) => {
             if fault == Fault::TouchedBefore22 && number == 22 {
                 buffer
                     .iter_mut()
                     .zip([1, 0, 0, 0])
                     .for_each(|(byte, new)| *byte = new);
             }
-            [number, place, 0]
+            let offset = match fault {
+                Fault::WrittenWithoutOffset => 0,
+                _ => record.offset,
+            };
+            [number, record.place, 0, offset]
         }
     };
     Written { answer, buffer }
@@ -88,14 +102,14 @@ fn block(lists: &Lists, room: usize, fault: Fault) -> Result<Vec<u8>, Refusal> {
     }
     let counts = counts(&lists);
     if !is_whole(&lists) || !rules::within_bounds(counts) {
-        return Err(Refusal(21, 0));
+        return Err(Refusal(21, Record::NONE));
     }
     if fault == Fault::FirstComputed {
         compute_firsts(&mut lists[0]);
     }
     let block = laid_out(&lists);
     let unfit = rules::read_processes(&block, counts[0] as usize, counts[1] as usize).err();
-    let short = (room < block.len()).then_some(Refusal(22, 0));
+    let short = (room < block.len()).then_some(Refusal(22, Record::NONE));
     let refusal = match fault {
         Fault::SixBefore22 => unfit.or(short),
         _ => short.or(unfit),
@@ -150,7 +164,7 @@ pub struct Job {
 pub fn compare(case: &Case, fault: Fault, rng: &mut Rng, tally: &mut Tally) -> Result<(), String> {
     let job = lists::generate(rng);
     let (answer, block) = compare_job(&job, fault, rng)?;
-    tally.numbers.count(answer[0]);
+    tally.numbers.count(answer);
     if answer[0] == 0 {
         read_back(&block, &job.lists, rng)
             .map_err(|error| format!("the block written from {}: {error}", job.describe()))?;
@@ -177,7 +191,7 @@ impl Job {
 }
 
 /// The library's answer, buffer and lists after a call against the rules; gives back the answer and what was written.
-fn compare_job(job: &Job, fault: Fault, rng: &mut Rng) -> Result<([u32; 3], Vec<u8>), String> {
+fn compare_job(job: &Job, fault: Fault, rng: &mut Rng) -> Result<([u32; 4], Vec<u8>), String> {
     let want = write(&job.lists, &job.buffer, fault);
     let entry = format!("rigpollen_write_block, {}", job.describe());
     let mut lists = job.lists.each_ref().map(|list| LentWords::new(list));
@@ -208,15 +222,15 @@ pub fn compare_far() -> Result<(), String> {
             let mut words = [4, 4, 2];
             words[i] += past;
             let answer = far.write_block(words, 4096);
-            if answer != [21, 0, 0] {
-                return Err(format!("rigpollen_write_block, lists of {words:?} words: answers {answer:?}; the rules give [21, 0, 0]"));
+            if answer != [21, 0, 0, 0] {
+                return Err(format!("rigpollen_write_block, lists of {words:?} words: answers {answer:?}; the rules give [21, 0, 0, 0]"));
             }
         }
     }
     let block = laid_out(&[record.to_vec(), record.to_vec(), record[..2].to_vec()]);
     let room = (1 << 32) + block.len() as u64 - 1;
     let answer = far.write_block([4, 4, 2], room);
-    let want = [0, 0, block.len() as u32];
+    let want = [0, 0, block.len() as u32, 0];
     if answer != want || !far.written().starts_with(&block) {
         return Err(format!("rigpollen_write_block, a buffer of {room} bytes: answers {answer:?}; the rules give {want:?} and the block"));
     }
@@ -225,8 +239,11 @@ pub fn compare_far() -> Result<(), String> {
 
 /// "Reading what it wrote gives the same records", by the rules here; and neither they nor the library refuse it with any of 2 to 6.
 fn read_back(block: &[u8], lists: &Lists, rng: &mut Rng) -> Result<(), String> {
-    let board = rules::read_block(block).map_err(|Refusal(number, place)| {
-        format!("the rules refuse it with {number} at {place}")
+    let board = rules::read_block(block).map_err(|Refusal(number, record)| {
+        format!(
+            "the rules refuse it with {number} at {}, byte {}",
+            record.place, record.offset
+        )
     })?;
     if records(&board) != *lists {
         return Err("other records are read here".to_string());
@@ -241,11 +258,11 @@ fn read_back(block: &[u8], lists: &Lists, rng: &mut Rng) -> Result<(), String> {
     };
     let want = rules::load(block, &[], &vec![0; ram.len], start, Fault::None).answer;
     let mut lent = Lent::new(block, rng.index(8));
-    let got = ffi::check(&mut lent, &mut Lent::new(&[], 0), ram, 5);
+    let got = ffi::check(&mut lent, &mut Lent::new(&[], 0), ram, want.len());
     if (2..=6).contains(&got.0) {
         return Err(format!("rigpollen_check refuses it with {}", got.0));
     }
-    compare_words("rigpollen_check", got, 5, want[0], &want)
+    compare_words("rigpollen_check", got, want.len(), want[0], &want)
 }
 
 /// The records of a block that was read. Kinds are 0, by 6.

@@ -147,8 +147,9 @@ static uint32_t boot(const uint8_t block[BLOCK_BYTES])
     if (number == RIGPOLLEN_LOADED)
         print_listing(block, answer);
     else
-        printf("refused %u at %u\n", (unsigned)number,
-               (unsigned)answer[RIGPOLLEN_ANSWER_PLACE]);
+        printf("refused %u at %u, byte %u\n", (unsigned)number,
+               (unsigned)answer[RIGPOLLEN_ANSWER_PLACE],
+               (unsigned)answer[RIGPOLLEN_ANSWER_OFFSET]);
     return number;
 }
 

@@ -58,9 +58,12 @@ extern "C" {
 
 /*
  * Refusals, as the loader's entries return them. "Place" is the second
- * word of the answer; it counts records from 0. The first in the
- * order of the numbers wins, with 7, 8 and 9 tried together for one section
- * before the next.
+ * word of the answer; it counts records from 0. The sixth is the record's
+ * byte offset in the block, 0 where the place is always 0: with p processes
+ * and s sections, process record i is at 32 + 16 i, section record n at
+ * 32 + 16 p + 16 n, region record i at 32 + 16 p + 16 s + 8 i. The first in
+ * the order of the numbers wins, with 7, 8 and 9 tried together for one
+ * section before the next.
  *
  *  No.  Given exactly when                                           Place
  *   0   (no refusal: the board is loaded)                            0
@@ -112,7 +115,8 @@ extern "C" {
 #define RIGPOLLEN_ANSWER_TAKEN   2 /* pages of RAM taken, with its top four */
 #define RIGPOLLEN_ANSWER_FREE    3 /* pages of RAM not taken, from page 0 up */
 #define RIGPOLLEN_ANSWER_TRACKER 4 /* pages that the page tracker takes      */
-#define RIGPOLLEN_ANSWER_WORDS   5
+#define RIGPOLLEN_ANSWER_OFFSET  5 /* where the refused record is, in bytes  */
+#define RIGPOLLEN_ANSWER_WORDS   6
 
 /*
  * Load a board.
@@ -149,10 +153,10 @@ uint32_t rigpollen_load(const uint8_t *block, uint64_t block_length,
 /*
  * The same load, with the whole answer.
  *
- *   answer  gets number, place, pages taken, pages free and tracker pages,
- *           as many as fit; words after the fifth stay as they are. On
- *           success number and place are 0, on a refusal the three counts
- *           are 0.
+ *   answer  gets number, place, pages taken, pages free, tracker pages and
+ *           offset, as many as fit; words after the sixth stay as they are.
+ *           On success number, place and offset are 0, on a refusal the
+ *           three counts are 0.
  *
  * Returns the number too.
  */
@@ -276,7 +280,8 @@ uint32_t rigpollen_walk(const uint8_t *ram, uint64_t ram_length,
 #define RIGPOLLEN_WRITTEN_NUMBER 0 /* 0, or the refusal's number              */
 #define RIGPOLLEN_WRITTEN_PLACE  1 /* the refused record, counted from 0      */
 #define RIGPOLLEN_WRITTEN_LENGTH 2 /* bytes of the block; 0 in a refusal      */
-#define RIGPOLLEN_WRITTEN_WORDS  3
+#define RIGPOLLEN_WRITTEN_OFFSET 3 /* where the refused record is, in bytes   */
+#define RIGPOLLEN_WRITTEN_WORDS  4
 
 /* The bytes of the longest block: no buffer need be longer. */
 #define RIGPOLLEN_BLOCK_BYTES_MAX 1568u
@@ -291,9 +296,10 @@ uint32_t rigpollen_walk(const uint8_t *ram, uint64_t ram_length,
  *   buffer  gets the block at its start: 32 bytes, 16 for each process and
  *           each section, 8 for each region. Bytes beyond the block stay as
  *           they were, and in a refusal all bytes.
- *   answer  gets number, place and length, as many as fit; words after the
- *           third stay as they are. On success number and place are 0, in a
- *           refusal the length is 0.
+ *   answer  gets number, place, length and offset, as many as fit; words
+ *           after the fourth stay as they are. On success number, place and
+ *           offset are 0, in a refusal the length is 0. The offset is that in
+ *           the block that would be written.
  *
  * The block draws none of 2 to 6, and has just these records. The records of
  * a block that draws none of 2 to 6 give the same bytes again.

@@ -60,14 +60,17 @@ static uint8_t *load(const struct board *board, const struct plan *plan)
     fill_random(ram, length, 2);
     if (rigpollen_answer(block, block_length, board->flash, board->flash_length,
                          ram, length, IMAGE, answer, RIGPOLLEN_ANSWER_WORDS)) {
-        fprintf(stderr, "image: refused %u at %u\n",
-                answer[RIGPOLLEN_ANSWER_NUMBER], answer[RIGPOLLEN_ANSWER_PLACE]);
+        fprintf(stderr, "image: refused %u at %u, byte %u\n",
+                answer[RIGPOLLEN_ANSWER_NUMBER], answer[RIGPOLLEN_ANSWER_PLACE],
+                answer[RIGPOLLEN_ANSWER_OFFSET]);
         exit(2);
     }
     if (answer[RIGPOLLEN_ANSWER_TAKEN] != plan->taken
         || answer[RIGPOLLEN_ANSWER_FREE] != board->pages - plan->taken
         || answer[RIGPOLLEN_ANSWER_TRACKER] != plan->tracker_pages)
         fail("the answer's counts are not those of the order of pages");
+    if (answer[RIGPOLLEN_ANSWER_PLACE] || answer[RIGPOLLEN_ANSWER_OFFSET])
+        fail("place or offset of a success is not 0");
     return ram;
 }
 

@@ -271,7 +271,7 @@ static void try_check(const struct head *head, struct area block,
 {
     struct words words;
     uint32_t *const answer = make_words(&words);
-    const uint32_t room = (head->number + 5) % (ROOM + 1);
+    const uint32_t room = (head->number + RIGPOLLEN_ANSWER_WORDS) % (ROOM + 1);
     uint32_t found;
 
     stack_mark();
@@ -360,7 +360,8 @@ static void call_writer(const struct writing *writing,
 {
     struct words words;
     uint32_t *const answer = make_words(&words);
-    const uint32_t room = (at_case + writings) % (ROOM + 1);
+    const uint32_t room = (at_case + writings + RIGPOLLEN_WRITTEN_WORDS)
+                          % (ROOM + 1);
     uint32_t found;
 
     stack_mark();

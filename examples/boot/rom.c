@@ -103,8 +103,9 @@ void rom(void)
     if (rigpollen_answer(flash, block_length(), flash, FLASH_BYTES, ram,
                          RAM_BYTES, RAM, answer, RIGPOLLEN_ANSWER_WORDS)
         != RIGPOLLEN_LOADED) {
-        print("rom: refused %u at %u\n", answer[RIGPOLLEN_ANSWER_NUMBER],
-              answer[RIGPOLLEN_ANSWER_PLACE]);
+        print("rom: refused %u at %u, byte %u\n",
+              answer[RIGPOLLEN_ANSWER_NUMBER], answer[RIGPOLLEN_ANSWER_PLACE],
+              answer[RIGPOLLEN_ANSWER_OFFSET]);
         return;
     }
     print("rom: loaded, %u of %u pages of RAM taken\n",

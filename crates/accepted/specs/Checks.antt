@@ -13,54 +13,56 @@ use borrow.Author.Tests.{eqb-true, eqb-false}
 use Rattle.notation.specs.Choice.{choose}
 use Rattle.notation.specs.Lists.{lookup}
 use Rattle.types.specs.declared.Area.{Area}
+use Rattle.types.specs.declared.RecordCheck.{RecordCheck}
 use Rattle.types.specs.declared.Verdict.{Verdict}
 use Rattle.rules.specs.Lent.{Image}
-use Rattle.rules.specs.Refusals.{Check, whole, records, refused, accepted, firstRecord, firstRefusal, sectionRefusal, lentChecks, headerChecks, processChecks, blockChecks, contentChecks, checks, verdict}
+use Rattle.rules.specs.Refusals.{Check, whole, records, refused, accepted, firstRecord, firstRefusal, processCheck, sectionRefusal, sectionCheck, entryPointCheck, regionCheck, lentChecks, headerChecks, processChecks, blockChecks, contentChecks, checks, verdict}
 use Rattle.laws.specs.Choice.{by-choose}
 use Rattle.laws.specs.Lists.{Every, _and_, every-at}
 
 -- nothing is wrong at a check
 abbrev pub Passes : Check → Type 0
 Passes (whole n c) = c ≡ false
-Passes (records n f) = (i : ℕ) → i < n → f i ≡ 0
+Passes (records n f) = (i : ℕ) → i < n → f i .number ≡ 0
 
--- a check gives refusal n at this place: its cause holds, and at no record before
-abbrev pub Refuses : Check → ℕ → ℕ → Type 0
-Refuses (whole m c) n place = (c ≡ true) × (n ≡ m) × (place ≡ 0)
-Refuses (records m f) n place = (place < m) × (f place ≡ n) × ((i : ℕ) → i < place → f i ≡ 0)
+-- a check gives this refusal: its cause holds, of a record at its place and offset, and at no record before
+abbrev pub Refuses : Check → Verdict → Type 0
+Refuses (whole n c) v = (c ≡ true) × (v .number ≡ n) × (v .place ≡ 0) × (v .offset ≡ 0)
+Refuses (records n f) v =
+    (v .place < n) × (f (v .place) .number ≡ v .number) × (f (v .place) .offset ≡ v .offset) × ((i : ℕ) → i < v .place → f i .number ≡ 0)
 
--- refusal n at this place comes from the first check that does not pass
-pub record FirstCause (cs : List Check) (n place : ℕ) : Type 0 where
+-- a refusal comes from the first check that does not pass
+pub record FirstCause (cs : List Check) (v : Verdict) : Type 0 where
   pub step : ℕ
   pub check : Check
   pub there : lookup cs step ≡ some check
   pub earlier : (k : ℕ) → k < step → (c : Check) → lookup cs k ≡ some c → Passes c
-  pub cause : Refuses check n place
+  pub cause : Refuses check v
 
 -- the numbers of a check are 1 to `top`
 abbrev pub Numbered : ℕ → Check → Type 0
 Numbered top (whole n c) = (1 ≤ n) × (n ≤ top)
-Numbered top (records n f) = (i : ℕ) → f i ≤ top
+Numbered top (records n f) = (i : ℕ) → f i .number ≤ top
 
 -- the verdict on a list of checks: all pass, or one is the first that does not
 abbrev pub Decided : ℕ → List Check → Verdict → Type 0
-Decided top cs v = (Every Passes cs × (v ≡ accepted)) ⊎ ((1 ≤ v .number) × (v .number ≤ top) × FirstCause cs (v .number) (v .place))
+Decided top cs v = (Every Passes cs × (v ≡ accepted)) ⊎ ((1 ≤ v .number) × (v .number ≤ top) × FirstCause cs v)
 
 -- the first record with a refusal, or none has one
-abbrev Scanned : (ℕ → ℕ) → ℕ → ℕ → Verdict → Verdict → Type 0
+abbrev Scanned : (ℕ → RecordCheck) → ℕ → ℕ → Verdict → Verdict → Type 0
 Scanned f k n rest v =
-    (((i : ℕ) → k ≤ i → i < k + n → f i ≡ 0) × (v ≡ rest))
-    ⊎ ((at : ℕ) × (k ≤ at) × (at < k + n) × (f at ≢ 0) × ((i : ℕ) → k ≤ i → i < at → f i ≡ 0) × (v ≡ refused (f at) at))
+    (((i : ℕ) → k ≤ i → i < k + n → f i .number ≡ 0) × (v ≡ rest))
+    ⊎ ((at : ℕ) × (k ≤ at) × (at < k + n) × (f at .number ≢ 0) × ((i : ℕ) → k ≤ i → i < at → f i .number ≡ 0) × (v ≡ refused (f at .number) at (f at .offset)))
 
-scanned : (f : ℕ → ℕ) (k n : ℕ) (rest : Verdict) → Scanned f k n rest (firstRecord f k n rest)
+scanned : (f : ℕ → RecordCheck) (k n : ℕ) (rest : Verdict) → Scanned f k n rest (firstRecord f k n rest)
 unfolding firstRecord
 scanned f k zero rest = inl ((λ i l h. absurd (omega arith)), refl)
 scanned f k (suc n) rest =
-    by-choose (Scanned f k (suc n) rest) (eqb (f k) 0) _ _
-    (λ e. later (eqb-true (f k) 0 e) (scanned f (suc k) n rest))
-    (λ e. inr (k, omega arith, omega arith, eqb-false (f k) 0 e, (λ i l h. absurd (omega arith)), refl))
+    by-choose (Scanned f k (suc n) rest) (eqb (f k .number) 0) _ _
+    (λ e. later (eqb-true (f k .number) 0 e) (scanned f (suc k) n rest))
+    (λ e. inr (k, omega arith, omega arith, eqb-false (f k .number) 0 e, (λ i l h. absurd (omega arith)), refl))
   where
-    later : f k ≡ 0 → {v : Verdict} → Scanned f (suc k) n rest v → Scanned f k (suc n) rest v
+    later : f k .number ≡ 0 → {v : Verdict} → Scanned f (suc k) n rest v → Scanned f k (suc n) rest v
     later z (inl s) = inl ((λ i l h. elim (ℕ-discrete i k) [ yes e ↦ rw e z | no e ↦ s .0 i (omega arith) (omega arith) ]), s .1)
     later z (inr s) = inr (
       s .0,
@@ -94,7 +96,7 @@ pass {c = c} {cs} p (inr d) =
     same-check : (c c′ : Check) → some c ≡ some c′ → Passes c → Passes c′
     same-check c c′ e p = let q : c ≡ c′ = cc in rw q at p
 
-decided : (top : ℕ) (cs : List Check) → Every (Numbered top) cs → Decided top cs (firstRefusal cs)
+pub decided : (top : ℕ) (cs : List Check) → Every (Numbered top) cs → Decided top cs (firstRefusal cs)
 unfolding firstRefusal lookup refused
 decided top [] ns = inl (tt, refl)
 decided top (whole n c ∷ cs) ns =
@@ -107,7 +109,7 @@ decided top (whole n c ∷ cs) ns =
         check = whole n c;
         there = refl;
         earlier = λ k h. absurd (not-suc-le-zero h);
-        cause = (e, refl, refl);
+        cause = (e, refl, refl, refl);
       },
     ))
     (λ e. pass {top = top} e (decided top cs (ns .1)))
@@ -123,7 +125,7 @@ decided top (records n f ∷ cs) ns = go (firstRecord f 0 n (firstRefusal cs)) (
         check = records n f;
         there = refl;
         earlier = λ k h. absurd (not-suc-le-zero h);
-        cause = (omega (arith, s .2), refl, λ i h. s .4 i (omega arith) h);
+        cause = (omega (arith, s .2), refl, refl, λ i h. s .4 i (omega arith) h);
       },
     ))
 
@@ -135,28 +137,27 @@ unfolding sectionRefusal
 section-number b flash n =
     by-choose (λ m. m ≤ 12) _ 7 _ (λ _. omega arith) (λ _. by-choose (λ m. m ≤ 12) _ 8 _ (λ _. omega arith) (λ _. one-number _ 9 12 (omega arith)))
 
-numbered : (x : Image) (ram : Area) → Every (Numbered 12) (checks x ram)
-unfolding checks lentChecks headerChecks processChecks blockChecks contentChecks
+pub numbered : (x : Image) (ram : Area) → Every (Numbered 12) (checks x ram)
+unfolding checks lentChecks headerChecks processChecks blockChecks contentChecks processCheck sectionCheck entryPointCheck regionCheck
 numbered x ram =
     (omega arith) and (omega arith) and (omega arith) and (omega arith) and (omega arith) and (λ i. one-number _ 6 12 (omega arith)) and section-number (x .block) _
     and (λ i. one-number _ 10 12 (omega arith)) and (λ i. one-number _ 11 12 (omega arith)) and (omega arith) and tt
 
 -- a check does not pass and refuse at once
-pub not-both : (c : Check) (n place : ℕ) → 1 ≤ n → Passes c → Refuses c n place → ⊥
-not-both (whole m c) n place h p r = let z : _≡_ {A = ℕ} 0 1 = cc in omega arith
-not-both (records m f) n place h p r = omega (arith, p place (r .0), r .1)
+pub not-both : (c : Check) (v : Verdict) → 1 ≤ v .number → Passes c → Refuses c v → ⊥
+not-both (whole n c) v h p r = let z : _≡_ {A = ℕ} 0 1 = cc in omega arith
+not-both (records n f) v h p r = omega (arith, p (v .place) (r .0), r .1)
 
 -- nor do all pass where one refuses
-never : (top : ℕ) (cs : List Check) (v : Verdict) → (1 ≤ v .number) × (v .number ≤ top) × FirstCause cs (v .number) (v .place) → Every Passes cs → ⊥
-never top cs v d ps = not-both (d .2 .check) (v .number) (v .place) (d .0) (every-at Passes cs (d .2 .step) ps (d .2 .there)) (d .2 .cause)
+never : (top : ℕ) (cs : List Check) (v : Verdict) → (1 ≤ v .number) × (v .number ≤ top) × FirstCause cs v → Every Passes cs → ⊥
+never top cs v d ps = not-both (d .2 .check) v (d .0) (every-at Passes cs (d .2 .step) ps (d .2 .there)) (d .2 .cause)
 
 all-pass : (top : ℕ) (cs : List Check) (v : Verdict) → Decided top cs v → (v .number ≡ 0) ↔ Every Passes cs
 unfolding accepted refused
 all-pass top cs v (inl d) = ((λ _. d .0), (λ _. rw (d .1)))
 all-pass top cs v (inr d) = ((λ e. absurd (omega (arith, d .0))), (λ ps. absurd (never top cs v d ps)))
 
-first-cause : (cs : List Check) (v : Verdict) → Decided 12 cs v → v .number ≢ 0
-    → (1 ≤ v .number) × (v .number ≤ 12) × FirstCause cs (v .number) (v .place)
+first-cause : (cs : List Check) (v : Verdict) → Decided 12 cs v → v .number ≢ 0 → (1 ≤ v .number) × (v .number ≤ 12) × FirstCause cs v
 unfolding accepted refused
 first-cause cs v (inl d) h = absurd (h (rw (d .1)))
 first-cause cs v (inr d) h = d
@@ -169,11 +170,11 @@ all-accepted : (top : ℕ) (cs : List Check) (v : Verdict) → Decided top cs v 
 all-accepted top cs v (inl d) ps = d .1
 all-accepted top cs v (inr d) ps = absurd (never top cs v d ps)
 
--- and then the place is 0 too
+-- and then place and offset are 0 too
 pub all-checks-accepted : (top : ℕ) (cs : List Check) → Every (Numbered top) cs → Every Passes cs → firstRefusal cs ≡ accepted
 all-checks-accepted top cs ns = all-accepted top cs _ (decided top cs ns)
 
--- THE VERDICT: number 0, and then place 0, exactly where every check passes; else the first cause
+-- THE VERDICT: number 0, and then place and offset 0, exactly where every check passes; else the first cause
 pub verdict-passes : (x : Image) (ram : Area) → (verdict x ram .number ≡ 0) ↔ Every Passes (checks x ram)
 unfolding verdict
 verdict-passes x ram = all-checks-pass 12 (checks x ram) (numbered x ram)
@@ -183,6 +184,6 @@ unfolding verdict
 verdict-accepted x ram e = all-checks-accepted 12 (checks x ram) (numbered x ram) (verdict-passes x ram .0 e)
 
 pub verdict-refuses : (x : Image) (ram : Area) → verdict x ram .number ≢ 0
-    → (1 ≤ verdict x ram .number) × (verdict x ram .number ≤ 12) × FirstCause (checks x ram) (verdict x ram .number) (verdict x ram .place)
+    → (1 ≤ verdict x ram .number) × (verdict x ram .number ≤ 12) × FirstCause (checks x ram) (verdict x ram)
 unfolding verdict
 verdict-refuses x ram = first-cause _ _ (decided 12 (checks x ram) (numbered x ram))

@@ -10,25 +10,26 @@ use borrow.Author.Tests.{eq-eqb, ne-eqb}
 use Rattle.notation.specs.Choice.{choose}
 use Rattle.laws.specs.Choice.{by-test, choose-yes, choose-no}
 use Rattle.laws.specs.Lists.{Every, _and_}
+use Rattle.types.specs.declared.RecordCheck.{RecordCheck}
 use Rattle.types.specs.declared.Verdict.{Verdict}
 use Rattle.rules.specs.Refusals.{Check, whole, records, refused, accepted, firstRecord, firstRefusal}
 
--- A SCAN OF RECORDS k TO n - 1, where f k is the number at record k
-module _ (f : ℕ → ℕ) (rest : Verdict) (k n : ℕ) where
+-- A SCAN OF RECORDS k TO n - 1, where f k is the check of record k
+module _ (f : ℕ → RecordCheck) (rest : Verdict) (k n : ℕ) where
   pub scan-end : n ≤ k → rest ≡ firstRecord f k (n - k) rest
   unfolding firstRecord
   scan-end h = let e : n - k ≡ 0 = omega arith in rw e
 
-  pub scan-next : (x : ℕ) → k < n → x ≡ f k → x ≡ 0 → firstRecord f (k + 1) (n - (k + 1)) rest ≡ firstRecord f k (n - k) rest
+  pub scan-next : (x : RecordCheck) → k < n → x ≡ f k → x .number ≡ 0 → firstRecord f (k + 1) (n - (k + 1)) rest ≡ firstRecord f k (n - k) rest
   unfolding firstRecord
-  scan-next x h e z = let m : n - k ≡ suc (n - (k + 1)) = omega arith in rw (m, add-one) (sym (choose-yes _ _ (eq-eqb (f k) 0 (sym e ∙ z))))
+  scan-next x h e z = let m : n - k ≡ suc (n - (k + 1)) = omega arith in rw (m, add-one) (sym (choose-yes _ _ (eq-eqb (f k .number) 0 (rw e at z))))
 
-  pub scan-stop : (x : ℕ) → k < n → x ≡ f k → (x ≡ 0 → ⊥) → refused x k ≡ firstRecord f k (n - k) rest
+  pub scan-stop : (x : RecordCheck) → k < n → x ≡ f k → (x .number ≡ 0 → ⊥) → refused (x .number) k (x .offset) ≡ firstRecord f k (n - k) rest
   unfolding firstRecord
-  scan-stop x h e z = let m : n - k ≡ suc (n - (k + 1)) = omega arith in rw (m, e) (sym (choose-no _ _ (ne-eqb (f k) 0 (λ y. z (e ∙ y)))))
+  scan-stop x h e z = let m : n - k ≡ suc (n - (k + 1)) = omega arith in rw (m, e) (sym (choose-no _ _ (ne-eqb (f k .number) 0 (rw e at z))))
 
--- two scans that give the same numbers
-pub scan-same : (f g : ℕ → ℕ) (k n : ℕ) (rest : Verdict) → ((i : ℕ) → k ≤ i → i < k + n → f i ≡ g i) → firstRecord f k n rest ≡ firstRecord g k n rest
+-- two scans with the same checks
+pub scan-same : (f g : ℕ → RecordCheck) (k n : ℕ) (rest : Verdict) → ((i : ℕ) → k ≤ i → i < k + n → f i ≡ g i) → firstRecord f k n rest ≡ firstRecord g k n rest
 unfolding firstRecord
 scan-same f g k zero rest h = refl
 scan-same f g k (suc n) rest h = rw (h k (omega arith) (omega arith), scan-same f g (suc k) n rest (λ i l m. h i (omega arith) (omega arith)))
@@ -38,12 +39,13 @@ scan-same f g k (suc n) rest h = rw (h k (omega arith) (omega arith), scan-same 
 abbrev pub firstOf : Verdict → Verdict → Verdict
 firstOf v w = choose (eqb (v .number) 0) w v
 
-scan-then : (f : ℕ → ℕ) (k n : ℕ) (u v w : Verdict) → u ≡ firstOf v w → firstRecord f k n u ≡ firstOf (firstRecord f k n v) w
+scan-then : (f : ℕ → RecordCheck) (k n : ℕ) (u v w : Verdict) → u ≡ firstOf v w → firstRecord f k n u ≡ firstOf (firstRecord f k n v) w
 unfolding firstRecord refused choose
 scan-then f k zero u v w h = h
 scan-then f k (suc n) u v w h = by-test
-    (λ c. choose c (firstRecord f (suc k) n u) (refused (f k) k) ≡ firstOf (choose c (firstRecord f (suc k) n v) (refused (f k) k)) w)
-    (eqb (f k) 0)
+    (λ c. choose c (firstRecord f (suc k) n u) (refused (f k .number) k (f k .offset))
+    ≡ firstOf (choose c (firstRecord f (suc k) n v) (refused (f k .number) k (f k .offset))) w)
+    (eqb (f k .number) 0)
     (λ e. scan-then f (suc k) n u v w h)
     (λ e. rw e)
 
@@ -57,7 +59,7 @@ pub first-of-both : (xs ys : List Check) → Every NotZero xs → firstRefusal (
 unfolding firstRefusal accepted refused choose
 first-of-both [] ys e = refl
 first-of-both (whole n c ∷ xs) ys e = by-test
-    (λ c. choose c (refused n 0) (firstRefusal (xs ++ ys)) ≡ firstOf (choose c (refused n 0) (firstRefusal xs)) (firstRefusal ys))
+    (λ c. choose c (refused n 0 0) (firstRefusal (xs ++ ys)) ≡ firstOf (choose c (refused n 0 0) (firstRefusal xs)) (firstRefusal ys))
     c
     (λ _. rw (ne-eqb n 0 (λ z. omega (arith, e .0))))
     (λ _. first-of-both xs ys (e .1))
@@ -67,7 +69,7 @@ first-of-both (records n f ∷ xs) ys e = scan-then f 0 n _ _ _ (first-of-both x
 pub step : (c : Check) (cs : List Check) (w : Verdict) → NotZero c → firstRefusal cs ≡ w → firstRefusal (c ∷ cs) ≡ firstOf (firstRefusal (c ∷ [])) w
 step c cs w n e = first-of-both (c ∷ []) cs (n and tt) ∙ rw e
 
-pub one-whole : (n : ℕ) (c : Bool) → firstRefusal (whole n c ∷ []) ≡ choose c (refused n 0) accepted
+pub one-whole : (n : ℕ) (c : Bool) → firstRefusal (whole n c ∷ []) ≡ choose c (refused n 0 0) accepted
 unfolding firstRefusal
 one-whole n c = refl
 
@@ -80,7 +82,7 @@ module _ (cs : List Check) (v : Verdict) (e : v ≡ firstRefusal cs) where
   refuses z w = rw (← e) (sym (choose-no w v (ne-eqb _ 0 z)))
 
 -- a check that refuses nothing passes, and the later ones refuse nothing
-pub whole-not-given : (c : Bool) (n : ℕ) (later : Verdict) → choose c (refused (suc n) 0) later .number ≡ 0 → (c ≡ false) × (later .number ≡ 0)
+pub whole-not-given : (c : Bool) (n : ℕ) (later : Verdict) → choose c (refused (suc n) 0 0) later .number ≡ 0 → (c ≡ false) × (later .number ≡ 0)
 unfolding choose refused
 whole-not-given true n later e = absurd (omega arith)
 whole-not-given false n later e = (refl, e)

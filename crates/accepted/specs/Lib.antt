@@ -1,4 +1,5 @@
 pub mod Checks
+pub mod Located
 pub mod InOrder
 pub mod NoCause
 pub mod Fits

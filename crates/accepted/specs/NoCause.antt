@@ -13,7 +13,7 @@ use Rattle.types.specs.declared.Answer.{Answer}
 use Rattle.rules.specs.Lent.{Image, Ram, ramArea, pagesIn}
 use Rattle.rules.specs.Block.{processCount, sectionCount, regionCount}
 use Rattle.rules.specs.Refusals.{ramUnfit, blockTooShort, formatUnknown, countsOutOfBounds, layoutNotTight, processUnfit, sectionUnfit, sectionMisplaced, sectionPastFlash}
-use Rattle.rules.specs.Refusals.{entryPointOutside, regionUnfit, ramTooSmall, refused, accepted, sectionRefusal, lentChecks, headerChecks, processChecks, blockChecks, contentChecks, checks, verdict}
+use Rattle.rules.specs.Refusals.{entryPointOutside, regionUnfit, ramTooSmall, processCheck, sectionRefusal, sectionCheck, entryPointCheck, regionCheck, refused, accepted, lentChecks, headerChecks, processChecks, blockChecks, contentChecks, checks, verdict}
 use Rattle.rules.specs.Load.{boots, bootAnswer, refusalAnswer, answerOn}
 use Rattle.laws.specs.Choice.{by-choose}
 use Rattle.laws.specs.Lists.{Every}
@@ -50,7 +50,7 @@ none-of-7-8-9 b flash n e =
 
 -- the list of checks, taken apart: the one place that goes by position
 from-checks : (x : Image) (ram : Area) → Every Passes (checks x ram) → NoCause x ram
-unfolding checks lentChecks headerChecks processChecks blockChecks contentChecks
+unfolding checks lentChecks headerChecks processChecks blockChecks contentChecks processCheck sectionCheck entryPointCheck regionCheck
 from-checks x ram (one, (two, (three, (four, (five, (six, (sections, (ten, (eleven, (twelve, end)))))))))) = record {
   ram-fit = one;
   block-long = two;
@@ -73,14 +73,14 @@ pub booted : (x : Image) (r : Ram) → boots x r ≡ true → NoCause x (ramArea
 unfolding boots
 booted x r e = no-cause x (ramArea r) (eqb-true (verdict x (ramArea r) .number) 0 e)
 
--- number and place of an answer are those of the verdict
+-- number, place and offset of an answer are those of the verdict
 module _ (x : Image) (ram : Area) where
   pub answer-number : answerOn x ram .number ≡ verdict x ram .number
   unfolding answerOn bootAnswer refusalAnswer
   answer-number = by-choose (λ (a : Answer). a .number ≡ verdict x ram .number) (eqb (verdict x ram .number) 0) _ _
       (λ e. sym (eqb-true (verdict x ram .number) 0 e)) (λ _. refl)
 
-  pub answer-place : answerOn x ram .place ≡ verdict x ram .place
+  pub answer-verdict : refused (answerOn x ram .number) (answerOn x ram .place) (answerOn x ram .offset) ≡ verdict x ram
   unfolding answerOn bootAnswer refusalAnswer refused accepted
-  answer-place = by-choose (λ (a : Answer). a .place ≡ verdict x ram .place) (eqb (verdict x ram .number) 0) _ _
-      (λ e. rw (verdict-accepted x ram (eqb-true (verdict x ram .number) 0 e))) (λ _. refl)
+  answer-verdict = by-choose (λ (a : Answer). refused (a .number) (a .place) (a .offset) ≡ verdict x ram) (eqb (verdict x ram .number) 0) _ _
+      (λ e. sym (verdict-accepted x ram (eqb-true (verdict x ram .number) 0 e))) (λ _. refl)

@@ -7,9 +7,6 @@ use Rattle.rules.specs.Block.{entryPoint, firstSection, sectionsOf, kind, proce
 use Rattle.types.specs.declared.Process.{Process}
 use Rattle.block_records.specs.Read.{IsProcess}
 
-pub one-back : (i : ℕ) → i + 1 - 1 ≡ i
-one-back i = omega arith
-
 -- process q has record q - 1; process 0 would have that of process 1
 pub process-of-record : (b : List ℕ) (q i : ℕ) (r : Process) → i ≡ q - 1 → IsProcess b (i + 1) r → IsProcess b q r
 unfolding entryPoint firstSection sectionsOf kind processAt

@@ -33,7 +33,7 @@ pub struct Region {
 pub fn read_process_record(block: &[u8], i: u32) -> Process
     ensures { λ r. ⌜ IsProcess (now (block .entry)) (i + 1) r ⌝ }
 {
-    let words = slices::four_words(block, 32 + 16 * (i as usize));
+    let words = slices::four_words(block, block_header::process_at(i));
     Process {
         entry_point: words.0,
         first_section: words.1,
@@ -102,7 +102,7 @@ pub fn read_section(block: &[u8], n: usize) -> Section
 pub fn read_region(block: &[u8], i: u32) -> Region
     ensures { λ r. ⌜ IsRegion (now (block .entry)) i r ⌝ }
 {
-    let at = block_header::regions_at(block) + 8 * (i as usize);
+    let at = block_header::region_at(block, i);
     let start = slices::word(block, at);
     let pages = slices::word(block, at + 4);
     Region {

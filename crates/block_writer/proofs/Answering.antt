@@ -12,12 +12,12 @@ use Rattle.laws.specs.Counts.{sum-same}
 use Rattle.laws.specs.Lists.{every-of-get}
 use Rattle.types.specs.declared.Verdict.{Verdict}
 use Rattle.rules.specs.Block.{lengthFor, entryPoint, firstSection, sectionsOf, kind, processAt, processRecord}
-use Rattle.rules.specs.Refusals.{sectionsBefore, processUnfit, refused, accepted, firstRefusal, processChecks}
+use Rattle.rules.specs.Refusals.{sectionsBefore, processUnfit, processCheck, refused, accepted, firstRefusal, processChecks}
 use Rattle.rules.specs.Writer.{Records, processesIn, sectionsIn, regionsIn, blockOf, listsUnfit, bufferTooShort, writerChecks, writerVerdict, written, bufferAfter}
 use Rattle.accepted.specs.InOrder.{scan-same}
 use Rattle.round_trips.specs.Accepting.{accepts, accepted-whole}
 use Rattle.round_trips.specs.WrittenBlock.{WordLists, Bounded, bounded, processes-read, sections-read, process-word-read}
-use Rattle.block_writer.specs.Lists.{processIn, sectionsBeforeIn, refusalIn, processRefusal, blockAtStart}
+use Rattle.block_writer.specs.Lists.{processIn, sectionsBeforeIn, checkIn, processRefusal, blockAtStart}
 
 -- REFUSAL 6 of the list is that of the block to be written
 module _ (l : Records) (ok : Bounded l) (ws : WordLists l) where
@@ -35,9 +35,10 @@ module _ (l : Records) (ok : Bounded l) (ws : WordLists l) where
   sum-is i h = sum-same i _ _ (λ k m. ap (λ r. r .sections) (record-same k (omega arith)))
 
   pub refusal-6 : processRefusal (l .processes) (sectionsIn l) ≡ firstRefusal (processChecks (blockOf l))
-  unfolding processRefusal processChecks firstRefusal refusalIn processUnfit
-  refusal-6 = rw (processes-read l ok ws, sections-read l ok ws)
-      (scan-same _ _ 0 (processesIn l) accepted (λ i z h. rw (record-same i (omega arith), sum-is i (omega arith))))
+  unfolding processRefusal processChecks processCheck firstRefusal checkIn processUnfit
+  refusal-6 = rw (processes-read l ok ws)
+      (scan-same _ _ 0 (processesIn l) accepted (λ i z h.
+      rw (processes-read l ok ws, sections-read l ok ws, record-same i (omega arith), sum-is i (omega arith))))
 
 -- WHAT 21 LEAVES, in words; the length is 32 bytes and four for each word
 pub record Few (l : Records) : Type 0 where
@@ -77,11 +78,11 @@ word-lists l p s r = record {
 
 -- THE VERDICT
 module _ (l : Records) (room : ℕ) where
-  pub verdict-21 : listsUnfit l ≡ true → refused 21 0 ≡ writerVerdict l room
+  pub verdict-21 : listsUnfit l ≡ true → refused 21 0 0 ≡ writerVerdict l room
   unfolding writerVerdict writerChecks firstRefusal
   verdict-21 e = sym (choose-yes _ _ e)
 
-  pub verdict-22 : listsUnfit l ≡ false → bufferTooShort l room ≡ true → refused 22 0 ≡ writerVerdict l room
+  pub verdict-22 : listsUnfit l ≡ false → bufferTooShort l room ≡ true → refused 22 0 0 ≡ writerVerdict l room
   unfolding writerVerdict writerChecks firstRefusal choose
   verdict-22 e f = rw (e, f)
 
@@ -91,7 +92,7 @@ module _ (l : Records) (room : ℕ) where
 
 -- THE ANSWER to a refusal, and to none
 module _ (l : Records) (d : List ℕ) (v : Verdict) (is : v ≡ writerVerdict l (length d)) where
-  pub refuses : (v .number ≡ 0 → ⊥) → (record { number = v .number; place = v .place; length = 0 } ≡ written l (length d)) × (d ≡ bufferAfter l d)
+  pub refuses : (v .number ≡ 0 → ⊥) → (record { number = v .number; place = v .place; length = 0; offset = v .offset } ≡ written l (length d)) × (d ≡ bufferAfter l d)
   unfolding written bufferAfter choose
   refuses z = let n = ne-eqb (v .number) 0 z in (rw (← is, n), rw (← is, n))
 
@@ -105,7 +106,7 @@ module _ (l : Records) (d : List ℕ) (v : Verdict) (is : v ≡ writerVerdict l 
       omega (arith, few-accepted z .length-is, ltb-false (length d) (lengthFor (processesIn l) (sectionsIn l) (regionsIn l)) short)
 
   pub writes : (z : v .number ≡ 0)
-      → (record { number = 0; place = 0; length = 32 + 4 * (length (l .processes) + length (l .sections) + length (l .regions)) } ≡ written l (length d))
+      → (record { number = 0; place = 0; length = 32 + 4 * (length (l .processes) + length (l .sections) + length (l .regions)); offset = 0 } ≡ written l (length d))
       × (blockAtStart l d ≡ bufferAfter l d)
   unfolding written bufferAfter blockAtStart accepted refused choose
   writes z =

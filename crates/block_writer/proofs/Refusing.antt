@@ -1,14 +1,16 @@
 -- Refusal 6 at one process record of a list.
-use mathlib.Core.Path.{_≡_, sym, _∙_}
-use mathlib.Core.Bool.{Bool, true, false}
+use mathlib.Core.Path.{_≡_, sym}
 use mathlib.Core.List.{List}
-use Prim.Native.Nat.{ℕ, _+_, _/_}
+use Prim.Native.Nat.{ℕ, _+_, _/_, _<_}
+use native.Mathlib.Omega.{arith}
 use lib.ListN.{length}
-use Rattle.laws.specs.Choice.{choose-yes, choose-no}
+use Rattle.notation.specs.Choice.{choose}
 use Rattle.laws.specs.Counts.{sum-none, sum-next}
 use Rattle.types.specs.declared.Process.{Process}
-use Rattle.rules.specs.Refusals.{recordUnfit}
-use Rattle.block_writer.specs.Lists.{processIn, sectionsBeforeIn, refusalIn}
+use Rattle.types.specs.declared.RecordCheck.{RecordCheck}
+use Rattle.rules.specs.Block.{processAt}
+use Rattle.rules.specs.Refusals.{recordUnfit, recordCheck}
+use Rattle.block_writer.specs.Lists.{processIn, sectionsBeforeIn, checkIn}
 
 pub sections-none : (ws : List ℕ) → 0 ≡ sectionsBeforeIn ws 0
 unfolding sectionsBeforeIn
@@ -18,13 +20,12 @@ pub sections-next : (ws : List ℕ) (n : ℕ) → sectionsBeforeIn ws (n + 1) �
 unfolding sectionsBeforeIn
 sections-next ws n = sum-next n _
 
--- the judgement u of record i, by what it says
-module _ (ws : List ℕ) (s i : ℕ) {before : ℕ} {x : Process} {u : Bool}
-    (is : x ≡ processIn ws i) (sum-is : before ≡ sectionsBeforeIn ws i) (judged : u ≡ recordUnfit x i (length ws / 4) before s) where
-  pub draws-6 : u ≡ true → 6 ≡ refusalIn ws s i
-  unfolding refusalIn
-  draws-6 e = rw (← is, ← sum-is) (sym (choose-yes 6 0 (sym judged ∙ e)))
+-- what the check of record i returned, where it was given the record and the sum before it
+pub checked-in : (ws : List ℕ) (s i : ℕ) {before : ℕ} {x : Process} {r : RecordCheck} → x ≡ processIn ws i → before ≡ sectionsBeforeIn ws i
+    → r ≡ recordCheck (choose (recordUnfit x i (length ws / 4) before s) 6 0) (processAt (i + 1)) → r ≡ checkIn ws s i
+unfolding checkIn
+checked-in ws s i is sum-is e = rw (← is, ← sum-is) e
 
-  pub draws-none : u ≡ false → 0 ≡ refusalIn ws s i
-  unfolding refusalIn
-  draws-none e = rw (← is, ← sum-is) (sym (choose-no 6 0 (sym judged ∙ e)))
+pub offset-fits : {i : ℕ} {r : RecordCheck} (n : ℕ) → r ≡ recordCheck n (processAt (i + 1)) → i < 16 → r .offset < 0x1_0000_0000
+unfolding processAt
+offset-fits n e h = rw e (omega arith)

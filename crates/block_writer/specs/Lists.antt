@@ -5,8 +5,10 @@ use lib.ListN.{length, getD, drop}
 use Rattle.notation.specs.Choice.{choose}
 use Rattle.notation.specs.Lists.{sum}
 use Rattle.types.specs.declared.Process.{Process}
+use Rattle.types.specs.declared.RecordCheck.{RecordCheck}
 use Rattle.types.specs.declared.Verdict.{Verdict}
-use Rattle.rules.specs.Refusals.{recordUnfit, records, firstRefusal}
+use Rattle.rules.specs.Block.{processAt}
+use Rattle.rules.specs.Refusals.{recordUnfit, recordCheck, records, firstRefusal}
 use Rattle.rules.specs.Writer.{Records, blockOf}
 
 -- process record i of the list
@@ -22,13 +24,13 @@ processIn ws i = record {
 unfoldable pub sectionsBeforeIn : List ℕ → ℕ → ℕ
 sectionsBeforeIn ws n = sum n (λ i. processIn ws i .sections)
 
--- the number of the refusal at process record i, 6 or 0, where there are s sections
-unfoldable pub refusalIn : List ℕ → ℕ → ℕ → ℕ
-refusalIn ws s i = choose (recordUnfit (processIn ws i) i (length ws / 4) (sectionsBeforeIn ws i) s) 6 0
+-- the check for 6 of process record i, where there are s sections
+unfoldable pub checkIn : List ℕ → ℕ → ℕ → RecordCheck
+checkIn ws s i = recordCheck (choose (recordUnfit (processIn ws i) i (length ws / 4) (sectionsBeforeIn ws i) s) 6 0) (processAt (i + 1))
 
 -- the first refusal 6
 unfoldable pub processRefusal : List ℕ → ℕ → Verdict
-processRefusal ws s = firstRefusal (records (length ws / 4) (refusalIn ws s) ∷ [])
+processRefusal ws s = firstRefusal (records (length ws / 4) (checkIn ws s) ∷ [])
 
 -- the buffer with the block of l at its start
 unfoldable pub blockAtStart : Records → List ℕ → List ℕ

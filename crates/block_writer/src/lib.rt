@@ -50,10 +50,12 @@ fn process_refusal(processes: &[u32], s: u32) -> Verdict
     let mut i: u32 = 0;
     while i < p {
         let process = process_in(processes, i);
-        if check_processes::record_unfit(process, i, p, before, s) {
+        let record = check_processes::check_record(process, i, p, before, s);
+        if record.number != 0 {
             return Verdict {
-                number: 6,
+                number: record.number,
                 place: i,
+                offset: record.offset as u32,
             };
         }
         before += process.sections as u64;
@@ -62,6 +64,7 @@ fn process_refusal(processes: &[u32], s: u32) -> Verdict
     Verdict {
         number: 0,
         place: 0,
+        offset: 0,
     }
 }
 
@@ -73,12 +76,14 @@ fn writer_verdict(processes: &[u32], sections: &[u32], regions: &[u32], room: us
         return Verdict {
             number: 21,
             place: 0,
+            offset: 0,
         };
     }
     if room < 32 + 4 * (processes.len() + sections.len() + regions.len()) {
         return Verdict {
             number: 22,
             place: 0,
+            offset: 0,
         };
     }
     process_refusal(processes, (sections.len() / 4) as u32)
@@ -143,6 +148,7 @@ pub fn write_block(
             number: verdict.number,
             place: verdict.place,
             length: 0,
+            offset: verdict.offset,
         };
     }
     let length = store_block(processes, sections, regions, buffer);
@@ -150,5 +156,6 @@ pub fn write_block(
         number: 0,
         place: 0,
         length,
+        offset: 0,
     }
 }

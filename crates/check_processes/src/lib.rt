@@ -1,12 +1,14 @@
 // Refusals 6 and 10: process records and entry points. Each function answers for any block and any number.
 use numbers::both;
 use types::Process;
+use types::RecordCheck;
 ghost use mathlib.Core.Bool.{_&&_};
 ghost use mathlib.Core.Path.{_≡_};
 ghost use Prim.Native.Nat.{_+_, _*_, _≤_};
 ghost use lib.Dec.{leb, ltb};
-ghost use Rattle.rules.specs.Block.{address, executable, sectionEnd};
-ghost use Rattle.rules.specs.Refusals.{sectionsBefore, recordUnfit, processUnfit, entryPointOutside};
+ghost use Rattle.notation.specs.Choice.{choose};
+ghost use Rattle.rules.specs.Block.{processAt, address, executable, sectionEnd};
+ghost use Rattle.rules.specs.Refusals.{sectionsBefore, recordUnfit, entryPointOutside, recordCheck, processCheck, entryPointCheck};
 
 // The sections of the first n process records.
 fn sections_before(block: &[u8], n: u32) -> u64
@@ -22,8 +24,8 @@ fn sections_before(block: &[u8], n: u32) -> u64
     sum
 }
 
-// Refusal 6, for a process record, number i of p: `before` is the sum of the section counts before it.
-pub fn record_unfit(process: Process, i: u32, p: u32, before: u64, s: u32) -> bool
+// Refusal 6, for a process record.
+fn record_unfit(process: Process, i: u32, p: u32, before: u64, s: u32) -> bool
     ensures { λ r. ⌜ r ≡ recordUnfit process i p before s ⌝ }
 {
     if process.kind != 0 {
@@ -43,13 +45,30 @@ pub fn record_unfit(process: Process, i: u32, p: u32, before: u64, s: u32) -> bo
     both(i as u64 + 1 == p as u64, sum != s as u64)
 }
 
-// Refusal 6, for process record i of a block.
-pub fn process_unfit(block: &[u8], i: u32) -> bool
-    ensures { λ r. ⌜ r ≡ processUnfit (now (block .entry)) i ⌝ }
+// The check of process record i: the number of a refusal, if it is given, and where the record is.
+fn process_check(given: bool, number: u32, i: u32) -> RecordCheck
+    ensures { λ r. ⌜ r ≡ recordCheck (choose given number 0) (processAt (i + 1)) ⌝ }
+{
+    RecordCheck {
+        number: numbers::flag(given, number),
+        offset: block_header::process_at(i),
+    }
+}
+
+// The check for 6 of a process record, number i of p: `before` is the sum of the section counts before it.
+pub fn check_record(process: Process, i: u32, p: u32, before: u64, s: u32) -> RecordCheck
+    ensures { λ r. ⌜ r ≡ recordCheck (choose (recordUnfit process i p before s) 6 0) (processAt (i + 1)) ⌝ }
+{
+    process_check(record_unfit(process, i, p, before, s), 6, i)
+}
+
+// The check for 6 of process record i of a block.
+pub fn check_process(block: &[u8], i: u32) -> RecordCheck
+    ensures { λ r. ⌜ r ≡ processCheck (now (block .entry)) i ⌝ }
 {
     let process = block_records::read_process_record(block, i);
     let before = sections_before(block, i);
-    record_unfit(
+    check_record(
         process,
         i,
         block_header::process_count(block),
@@ -71,7 +90,7 @@ fn can_enter(block: &[u8], n: usize, at: u32) -> bool
 }
 
 // Refusal 10, for process record i.
-pub fn entry_point_outside(block: &[u8], i: u32) -> bool
+fn entry_point_outside(block: &[u8], i: u32) -> bool
     ensures { λ r. ⌜ r ≡ entryPointOutside (now (block .entry)) i ⌝ }
 {
     let process = block_records::read_process_record(block, i);
@@ -86,4 +105,11 @@ pub fn entry_point_outside(block: &[u8], i: u32) -> bool
         j += 1;
     }
     true
+}
+
+// The check for 10 of process record i.
+pub fn check_entry_point(block: &[u8], i: u32) -> RecordCheck
+    ensures { λ r. ⌜ r ≡ entryPointCheck (now (block .entry)) i ⌝ }
+{
+    process_check(entry_point_outside(block, i), 10, i)
 }

@@ -1,5 +1,6 @@
 // Refusal 11: region records. Each function answers for any block, any RAM and any number.
 use types::Area;
+use types::RecordCheck;
 ghost use mathlib.Core.Bool.{not, _&&_};
 ghost use mathlib.Core.List.{[], _∷_};
 ghost use mathlib.Core.Path.{_≡_};
@@ -8,7 +9,7 @@ ghost use lib.Dec.{eqb, ltb};
 ghost use Rattle.notation.specs.Choice.{any};
 ghost use Rattle.rules.specs.Lent.{areaOf, endOf, shareAddress};
 ghost use Rattle.rules.specs.Block.{regionArea};
-ghost use Rattle.rules.specs.Refusals.{regionUnfit};
+ghost use Rattle.rules.specs.Refusals.{regionUnfit, regionCheck};
 
 // Some address is in the area and in the `pages` pages from `start` on.
 fn share_address(area: Area, start: u32, pages: u32) -> bool
@@ -53,7 +54,7 @@ fn below_previous(block: &[u8], at: u32, i: u32) -> bool
 }
 
 // Refusal 11, for region record i.
-pub fn region_unfit(block: &[u8], ram: Area, i: u32) -> bool
+fn region_unfit(block: &[u8], ram: Area, i: u32) -> bool
     ensures { λ r. ⌜ r ≡ regionUnfit (now (block .entry)) ram i ⌝ }
 {
     let region = block_records::read_region(block, i);
@@ -65,4 +66,14 @@ pub fn region_unfit(block: &[u8], ram: Area, i: u32) -> bool
         share_address(ram, region.start, region.pages),
         order_tracker::io_pages_of(block, i) + region.pages as u64,
     )
+}
+
+// The check of region record i: 11 or 0, and where the record is.
+pub fn check_region(block: &[u8], ram: Area, i: u32) -> RecordCheck
+    ensures { λ r. ⌜ r ≡ regionCheck (now (block .entry)) ram i ⌝ }
+{
+    RecordCheck {
+        number: numbers::flag(region_unfit(block, ram, i), 11),
+        offset: block_header::region_at(block, i),
+    }
 }

@@ -1,5 +1,6 @@
 // Refusals 7, 8 and 9: section records. Each function answers for any block and any number.
 use numbers::both;
+use types::RecordCheck;
 ghost use mathlib.Core.Bool.{not, _&&_};
 ghost use mathlib.Core.List.{[], _∷_};
 ghost use mathlib.Core.Path.{_≡_};
@@ -7,7 +8,7 @@ ghost use Prim.Native.Nat.{_+_, _-_};
 ghost use lib.Dec.{eqb, leb, ltb};
 ghost use Rattle.notation.specs.Choice.{any};
 ghost use Rattle.rules.specs.Block.{firstSection, firstPage, lastPage};
-ghost use Rattle.rules.specs.Refusals.{sectionUnfit, hasSection, ownerOf, rangeFirst, rangeLast, sectionMisplaced, sectionPastFlash, sectionRefusal};
+ghost use Rattle.rules.specs.Refusals.{sectionUnfit, hasSection, ownerOf, rangeFirst, rangeLast, sectionMisplaced, sectionPastFlash, sectionRefusal, sectionCheck};
 
 // Refusal 7 of a size, flags, writable with executable, and NOCOPY with a flash offset other than 0.
 fn record_unfit(size: u32, flags: u32, writes: bool, skips: bool) -> bool
@@ -131,7 +132,7 @@ fn section_past_flash(block: &[u8], flash: usize, n: u32) -> bool
 }
 
 // The number of the refusal at section record n, or 0: 7, 8 and 9 together.
-pub fn section_refusal(block: &[u8], flash: usize, n: u32) -> u32
+fn section_refusal(block: &[u8], flash: usize, n: u32) -> u32
     ensures { λ r. ⌜ r ≡ sectionRefusal (now (block .entry)) flash n ⌝ }
 {
     if section_unfit(block, n) {
@@ -144,4 +145,14 @@ pub fn section_refusal(block: &[u8], flash: usize, n: u32) -> u32
         return 9;
     }
     0
+}
+
+// The check of section record n: 7, 8, 9 or 0, and where the record is.
+pub fn check_section(block: &[u8], flash: usize, n: u32) -> RecordCheck
+    ensures { λ r. ⌜ r ≡ sectionCheck (now (block .entry)) flash n ⌝ }
+{
+    RecordCheck {
+        number: section_refusal(block, flash, n),
+        offset: block_header::section_at(block, n),
+    }
 }

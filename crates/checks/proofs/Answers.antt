@@ -15,18 +15,18 @@ use Rattle.rules.specs.Lent.{Image, pagesIn}
 use Rattle.rules.specs.Order.{pagesNeeded, freePages, trackerPages}
 use Rattle.rules.specs.Refusals.{ramTooSmall, refused, accepted, verdict}
 use Rattle.rules.specs.Load.{refusalAnswer, bootAnswer, answerOn}
-use Rattle.accepted.specs.NoCause.{answer-number, answer-place}
+use Rattle.accepted.specs.NoCause.{answer-verdict}
 use Rattle.checks.specs.Room.{roomAnswer}
 use Rattle.checks.proofs.Verdicts.{room}
 
 -- PAST 1 TO 11: by the pages
 module _ (b : List ℕ) (N : ℕ) where
-  pub no-room : ramTooSmall b N ≡ true → refusalAnswer (refused 12 0) ≡ roomAnswer b N
+  pub no-room : ramTooSmall b N ≡ true → refusalAnswer (refused 12 0 0) ≡ roomAnswer b N
   unfolding roomAnswer
   no-room t = sym (choose-yes _ _ t)
 
   pub boot-answer : (taken tracker : ℕ) → ramTooSmall b N ≡ false → taken ≡ pagesNeeded b N → tracker ≡ trackerPages b N
-      → record { number = 0; place = 0; taken = taken; free = N - taken; tracker = tracker } ≡ roomAnswer b N
+      → record { number = 0; place = 0; taken = taken; free = N - taken; tracker = tracker; offset = 0 } ≡ roomAnswer b N
   unfolding roomAnswer bootAnswer freePages
   boot-answer taken tracker t ek et = rw (ek, et) (sym (choose-no _ _ t))
 
@@ -42,12 +42,11 @@ module _ (x : Image) (ram : Area) where
       let boot = bootAnswer (x .block) (pagesIn ram .pages) in
       rw e
       (by-test
-      (λ c. choose c (refusalAnswer (refused 12 0)) boot
-      ≡ choose (eqb (choose c (refused 12 0) accepted .number) 0) boot (refusalAnswer (choose c (refused 12 0) accepted)))
+      (λ c. choose c (refusalAnswer (refused 12 0 0)) boot
+      ≡ choose (eqb (choose c (refused 12 0 0) accepted .number) 0) boot (refusalAnswer (choose c (refused 12 0 0) accepted)))
       (ramTooSmall (x .block) (pagesIn ram .pages))
       (λ _. refl)
       (λ _. refl))
 
-  pub answer-verdict : (a : Answer) → a ≡ answerOn x ram → refused (a .number) (a .place) ≡ verdict x ram
-  unfolding refused
-  answer-verdict a e = rw (e, answer-number x ram, answer-place x ram)
+  pub verdict-of : (a : Answer) → a ≡ answerOn x ram → refused (a .number) (a .place) (a .offset) ≡ verdict x ram
+  verdict-of a e = rw e (answer-verdict x ram)

@@ -8,4 +8,4 @@ use Rattle.rules.specs.Load.{refusalAnswer, bootAnswer}
 
 -- the answer where 1 to 11 are not given, on RAM of N pages
 unfoldable pub roomAnswer : List ℕ → ℕ → Answer
-roomAnswer b N = choose (ramTooSmall b N) (refusalAnswer (refused 12 0)) (bootAnswer b N)
+roomAnswer b N = choose (ramTooSmall b N) (refusalAnswer (refused 12 0 0)) (bootAnswer b N)

@@ -1,6 +1,7 @@
 // The answer to a load: the first of 01's refusals, in 01's order, that is given, or the counts of pages. What is lent here is only read.
 use types::Answer;
 use types::Area;
+use types::RecordCheck;
 use types::Verdict;
 ghost use mathlib.Core.List.{[], _∷_};
 ghost use mathlib.Core.Path.{_≡_};
@@ -9,14 +10,18 @@ ghost use Rattle.rules.specs.Lent.{imageOf, areaOf};
 ghost use Rattle.rules.specs.Block.{processCount};
 ghost use Rattle.rules.specs.Refusals.{refused, firstRefusal, lentChecks, headerChecks, verdict};
 ghost use Rattle.rules.specs.Load.{refusalAnswer, answerOn};
-ghost use Rattle.checks.specs.Scan.{recordCount, refusalAt, scanOf, recordChecks};
+ghost use Rattle.checks.specs.Scan.{Counted, recordCount, checkAt, scanOf, recordChecks};
 ghost use Rattle.checks.specs.Room.{roomAnswer};
 
-// A verdict; `refused(0, 0)` is the one that boots.
-fn refused(number: u32, place: u32) -> Verdict
-    ensures { λ r. ⌜ r ≡ refused number place ⌝ }
+// A verdict; `refused(0, 0, 0)` is the one that boots.
+fn refused(number: u32, place: u32, offset: u32) -> Verdict
+    ensures { λ r. ⌜ r ≡ refused number place offset ⌝ }
 {
-    Verdict { number, place }
+    Verdict {
+        number,
+        place,
+        offset,
+    }
 }
 
 // The checks that go record by record.
@@ -39,32 +44,33 @@ fn record_count(scan: Scan, block: &[u8]) -> u32
     }
 }
 
-// The number of the refusal at record i, or 0.
-fn refusal_at(scan: Scan, block: &[u8], flash: &[u8], ram: Area, i: u32) -> u32
-    ensures { λ r. ⌜ r ≡ refusalAt scan (imageOf (now (block .entry)) (now (flash .entry))) ram i ⌝ }
+// The check of record i.
+fn check_at(scan: Scan, block: &[u8], flash: &[u8], ram: Area, i: u32) -> RecordCheck
+    ensures { λ r. ⌜ r ≡ checkAt scan (imageOf (now (block .entry)) (now (flash .entry))) ram i ⌝ }
 {
     match scan {
-        Scan::Processes => numbers::flag(check_processes::process_unfit(block, i), 6),
-        Scan::Sections => check_sections::section_refusal(block, flash.len(), i),
-        Scan::EntryPoints => numbers::flag(check_processes::entry_point_outside(block, i), 10),
-        Scan::Regions => numbers::flag(check_regions::region_unfit(block, ram, i), 11),
+        Scan::Processes => check_processes::check_process(block, i),
+        Scan::Sections => check_sections::check_section(block, flash.len(), i),
+        Scan::EntryPoints => check_processes::check_entry_point(block, i),
+        Scan::Regions => check_regions::check_region(block, ram, i),
     }
 }
 
-// The first refusal of a scan.
+// The first refusal of a scan. Where 4 is not given, offsets are numbers of 32 bits.
 fn scan_refusal(scan: Scan, block: &[u8], flash: &[u8], ram: Area) -> Verdict
+    requires { ⌜ Counted (now block) ⌝ }
     ensures { λ r. ⌜ r ≡ firstRefusal (scanOf scan (imageOf (now (block .entry)) (now (flash .entry))) ram ∷ []) ⌝ }
 {
     let n = record_count(scan, block);
     let mut i: u32 = 0;
     while i < n {
-        let number = refusal_at(scan, block, flash, ram, i);
-        if number != 0 {
-            return refused(number, i);
+        let record = check_at(scan, block, flash, ram, i);
+        if record.number != 0 {
+            return refused(record.number, i, record.offset as u32);
         }
         i += 1;
     }
-    refused(0, 0)
+    refused(0, 0, 0)
 }
 
 // Refusal 1, for RAM of `ram` bytes from `start` on.
@@ -72,9 +78,9 @@ fn lent_refusal(start: u32, ram: usize) -> Verdict
     ensures { λ r. ⌜ r ≡ firstRefusal (lentChecks (areaOf start ram)) ⌝ }
 {
     if check_header::ram_unfit(start, ram) {
-        return refused(1, 0);
+        return refused(1, 0, 0);
     }
-    refused(0, 0)
+    refused(0, 0, 0)
 }
 
 // Refusals 2 to 5, in order.
@@ -82,22 +88,23 @@ fn header_refusal(block: &[u8]) -> Verdict
     ensures { λ r. ⌜ r ≡ firstRefusal (headerChecks (now (block .entry))) ⌝ }
 {
     if check_header::block_too_short(block) {
-        return refused(2, 0);
+        return refused(2, 0, 0);
     }
     if check_header::format_unknown(block) {
-        return refused(3, 0);
+        return refused(3, 0, 0);
     }
     if check_header::counts_out_of_bounds(block) {
-        return refused(4, 0);
+        return refused(4, 0, 0);
     }
     if check_header::layout_not_tight(block) {
-        return refused(5, 0);
+        return refused(5, 0, 0);
     }
-    refused(0, 0)
+    refused(0, 0, 0)
 }
 
 // Refusals 6 to 11, in order.
 fn record_refusal(block: &[u8], flash: &[u8], ram: Area) -> Verdict
+    requires { ⌜ Counted (now block) ⌝ }
     ensures { λ r. ⌜ r ≡ firstRefusal (recordChecks (imageOf (now (block .entry)) (now (flash .entry))) ram) ⌝ }
 {
     let process = scan_refusal(Scan::Processes, block, flash, ram);
@@ -125,6 +132,7 @@ fn refusal(verdict: Verdict) -> Answer
         taken: 0,
         free: 0,
         tracker: 0,
+        offset: verdict.offset,
     }
 }
 
@@ -136,7 +144,7 @@ fn room_answer(block: &[u8], pages: u32) -> Answer
 {
     let needed = order_places::root_place(block, pages, block_header::process_count(block) + 1);
     if pages < needed {
-        return refusal(refused(12, 0));
+        return refusal(refused(12, 0, 0));
     }
     let tracker = order_tracker::tracker_pages(block, pages) as u32;
     Answer {
@@ -145,10 +153,11 @@ fn room_answer(block: &[u8], pages: u32) -> Answer
         taken: needed,
         free: pages - needed,
         tracker,
+        offset: 0,
     }
 }
 
-// The answer to a load into RAM of `ram` bytes from `start` on: number, place, pages taken, pages free and tracker pages; in a
+// The answer to a load into RAM of `ram` bytes from `start` on: number, place, pages taken, pages free, tracker pages and offset; in a
 // refusal the three counts are 0.
 pub fn answer_on(block: &[u8], flash: &[u8], start: u32, ram: usize) -> Answer
     ensures { λ r. ⌜ r ≡ answerOn (imageOf (now (block .entry)) (now (flash .entry))) (areaOf start ram) ⌝ }
@@ -172,10 +181,10 @@ pub fn answer_on(block: &[u8], flash: &[u8], start: u32, ram: usize) -> Answer
     room_answer(block, area.length / 4096)
 }
 
-// 01's verdict on a block, a flash image, and RAM of `ram` bytes from `start` on: number and place of the answer.
+// 01's verdict on a block, a flash image, and RAM of `ram` bytes from `start` on: number, place and offset of the answer.
 pub fn check(block: &[u8], flash: &[u8], start: u32, ram: usize) -> Verdict
     ensures { λ r. ⌜ r ≡ verdict (imageOf (now (block .entry)) (now (flash .entry))) (areaOf start ram) ⌝ }
 {
     let answer = answer_on(block, flash, start, ram);
-    refused(answer.number, answer.place)
+    refused(answer.number, answer.place, answer.offset)
 }

@@ -19,8 +19,8 @@ use Rattle.rules.specs.Lent.{Image, Ram, ramArea, pagesIn}
 use Rattle.rules.specs.Block.{processCount, sectionCount}
 use Rattle.rules.specs.Space.{Data, Mapping, unmapped, stack, maps, inTracker, kernelPage, mappingAt}
 use Rattle.rules.specs.Order.{order, trackerPages, pagesNeeded}
-use Rattle.rules.specs.Refusals.{Check, whole, records, lentChecks, headerChecks, processChecks, blockChecks, contentChecks, checks, verdict, sectionRefusal}
-use Rattle.rules.specs.Refusals.{blockTooShort, formatUnknown, countsOutOfBounds, layoutNotTight, processUnfit, entryPointOutside, regionUnfit, ramTooSmall}
+use Rattle.rules.specs.Refusals.{blockTooShort, formatUnknown, countsOutOfBounds, layoutNotTight, ramTooSmall, processCheck, sectionRefusal, sectionCheck, entryPointCheck, regionCheck}
+use Rattle.rules.specs.Refusals.{Check, whole, records, lentChecks, headerChecks, processChecks, blockChecks, contentChecks, checks, verdict}
 use Rattle.rules.specs.Contents.{tracker, processWord, processListByte}
 use Rattle.rules.specs.Load.{boots, bootAnswer, answerOn, answer}
 use Rattle.rules.specs.Sees.{byteAt, viewOf, sees, seesOn, processSees}
@@ -38,30 +38,31 @@ use Rattle.demands.specs.Demand2.{sees-what-the-rules-give}
 -- BOOTS ON ANY LARGER RAM
 -- a check gives no refusal but 1 and 11
 abbrev Only : Check → Type 0
-Only c = (n place : ℕ) → 1 ≤ n → n ≢ 1 → n ≢ 11 → Refuses c n place → ⊥
+Only c = (v : Verdict) → 1 ≤ v .number → v .number ≢ 1 → v .number ≢ 11 → Refuses c v → ⊥
 
 passes-only : (c : Check) → Passes c → Only c
-passes-only c p n place h _ _ r = not-both c n place h p r
+passes-only c p v h _ _ r = not-both c v h p r
 
-region-only : (c : ℕ → Bool) (m : ℕ) → Only (records m (λ i. choose (c i) 11 0))
-region-only c m n place h _ no-11 r =
-    by-choose (λ z. z ≡ n → ⊥) (c place) 11 0 (λ _ e. no-11 (sym e)) (λ _ e. omega arith) (r .1)
+region-only : (b : List ℕ) (ram : Area) (n : ℕ) → Only (records n (regionCheck b ram))
+unfolding regionCheck
+region-only b ram n v h _ no-11 r =
+    by-choose (λ z. z ≡ v .number → ⊥) _ 11 0 (λ _ e. no-11 (sym e)) (λ _ e. omega arith) (r .1)
 
 -- what passes for one RAM draws no other number for a larger one
 only-1-and-11 : (x : Image) (ram ram′ : Area) → pagesIn ram .pages ≤ pagesIn ram′ .pages → NoCause x ram → Every Only (checks x ram′)
-unfolding checks lentChecks headerChecks processChecks blockChecks contentChecks ramTooSmall sectionRefusal choose
+unfolding checks lentChecks headerChecks processChecks blockChecks contentChecks processCheck sectionRefusal sectionCheck entryPointCheck ramTooSmall choose
 only-1-and-11 x ram ram′ l ok =
     let b : List ℕ = x .block in
     let enough : pagesNeeded b (pagesIn ram .pages) ≤ pagesIn ram .pages = ltb-false _ _ (ok .room) in
-    (λ n place h no-1 no-11 r. no-1 (r .1))
+    (λ v h no-1 no-11 r. no-1 (r .1))
     and passes-only (whole 2 (blockTooShort b)) (ok .block-long)
     and passes-only (whole 3 (formatUnknown b)) (ok .format-known)
     and passes-only (whole 4 (countsOutOfBounds b)) (ok .counts-in-bounds)
     and passes-only (whole 5 (layoutNotTight b)) (ok .layout-tight)
-    and passes-only (records (processCount b) (λ i. choose (processUnfit b i) 6 0)) (λ i h. rw (ok .process-fit i h))
-    and passes-only (records (sectionCount b) (sectionRefusal b (length (x .flash)))) (λ n h. rw (ok .section-fit n h, ok .section-placed n h, ok .section-in-flash n h))
-    and passes-only (records (processCount b) (λ i. choose (entryPointOutside b i) 10 0)) (λ i h. rw (ok .entry-point-inside i h))
-    and region-only (regionUnfit b ram′) _
+    and passes-only (records (processCount b) (processCheck b)) (λ i h. rw (ok .process-fit i h))
+    and passes-only (records (sectionCount b) (sectionCheck b (length (x .flash)))) (λ n h. rw (ok .section-fit n h, ok .section-placed n h, ok .section-in-flash n h))
+    and passes-only (records (processCount b) (entryPointCheck b)) (λ i h. rw (ok .entry-point-inside i h))
+    and region-only b ram′ _
     and passes-only (whole 12 (ramTooSmall b (pagesIn ram′ .pages))) (le-ltb _ _ (needed-larger b (pagesIn ram .pages) (pagesIn ram′ .pages) l enough))
     and tt
 
@@ -73,9 +74,9 @@ boots-on-larger-ram x r r′ e l no-1 no-11 =
     elim (ℕ-discrete (v .number) 0) [
       | yes z ↦ eq-eqb (v .number) 0 z
       | no z ↦
-          let c : (1 ≤ v .number) × (v .number ≤ 12) × FirstCause (checks x (ramArea r′)) (v .number) (v .place) = refusal-is-first-cause x (ramArea r′) z in
+          let c : (1 ≤ v .number) × (v .number ≤ 12) × FirstCause (checks x (ramArea r′)) v = refusal-is-first-cause x (ramArea r′) z in
           absurd (every-at Only (checks x (ramArea r′)) (c .2 .step)
-          (only-1-and-11 x (ramArea r) (ramArea r′) l (no-cause x (ramArea r) (eqb-true _ 0 e))) (c .2 .there) (v .number) (v .place) (c .0) no-1 no-11 (c .2 .cause))
+          (only-1-and-11 x (ramArea r) (ramArea r′) l (no-cause x (ramArea r) (eqb-true _ 0 e))) (c .2 .there) v (c .0) no-1 no-11 (c .2 .cause))
     ]
 
 -- THE SAME ON BOTH

@@ -176,7 +176,7 @@ fn list_arguments() {
 fn print_help() {
     print(
         b"listing BLOCK FLASH START PAGES\n\
-          Loads a boot block and a flash image into RAM, and prints the boot, or the refusal's number and place.\n\
+          Loads a boot block and a flash image into RAM, and prints the boot, or the refusal's number, place and byte in the block.\n\
           BLOCK: the boot block file\n\
           FLASH: the flash file, of at most 262,144 bytes\n\
           START: the physical address at which RAM starts, below 2^32\n\

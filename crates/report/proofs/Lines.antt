@@ -35,7 +35,7 @@ lines-next b ram i p e h q = rw gather-next (appended-then p (rw (e, h) at q))
 
 -- LISTING
 module _ (x : Image) (r : Ram) (a : Answer) (e : a ≡ answer x r) where
-  pub listed-refused : {xs ys : List ℕ} {j : ℕ} → a .number ≢ 0 → Appended xs 0 (refusedLine (a .number) (a .place)) ys j → Appended xs 0 (listing x r) ys j
+  pub listed-refused : {xs ys : List ℕ} {j : ℕ} → a .number ≢ 0 → Appended xs 0 (refusedLine (a .number) (a .place) (a .offset)) ys j → Appended xs 0 (listing x r) ys j
   unfolding listing
   listed-refused n p = rw (← e) (rw (choose-no _ _ (ne-eqb _ _ n)) p)
 

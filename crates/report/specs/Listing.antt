@@ -23,4 +23,4 @@ listing x r =
     let ram = pagesIn (ramArea r) in
     choose (eqb (a .number) 0)
     (bootLine (ram .pages) (a .free) ++ processLines (x .block) ram (processCount (x .block)))
-    (refusedLine (a .number) (a .place))
+    (refusedLine (a .number) (a .place) (a .offset))

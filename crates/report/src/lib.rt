@@ -105,7 +105,7 @@ pub fn load_listing(block: &[u8], flash: &[u8], ram: &mut [u8], start: u32, to: 
     let len = ram.len();
     let answer = loader::load(block, flash, ram, start);
     if answer.number != 0 {
-        return refusal_line::put_refused(to, 0, answer.number, answer.place);
+        return refusal_line::put_refused(to, 0, answer.number, answer.place, answer.offset);
     }
     let lines = boot_line(to, 0, (len / 4096) as u64, answer.free);
     let kernel = kernel_pages(block, answer.taken);

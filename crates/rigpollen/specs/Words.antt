@@ -17,9 +17,9 @@ use Rattle.rules.specs.Contents.{stackPointer, processWord}
 use Rattle.rules.specs.Load.{satpWord}
 use Rattle.order_roots.specs.Roots.{isProcess}
 
--- the full answer: number, place, pages taken, pages free, tracker pages
+-- the full answer: number, place, pages taken, pages free, tracker pages, offset
 abbrev pub answerWords : Answer → List ℕ
-answerWords a = a .number ∷ a .place ∷ a .taken ∷ a .free ∷ a .tracker ∷ []
+answerWords a = a .number ∷ a .place ∷ a .taken ∷ a .free ∷ a .tracker ∷ a .offset ∷ []
 
 -- the words of process q with its root at physical page P: satp, entry point, stack pointer
 unfoldable pub startWords : List ℕ → ℕ → ℕ → List ℕ
@@ -53,6 +53,6 @@ entryWords Reserved = []
 entryWords (Pointer P) = []
 entryWords (Page t P) = rightsWord t ∷ P .0 ∷ []
 
--- the block writer's answer: number, place, length
+-- the block writer's answer: number, place, length, offset
 abbrev pub writtenWords : Written → List ℕ
-writtenWords w = w .number ∷ w .place ∷ w .length ∷ []
+writtenWords w = w .number ∷ w .place ∷ w .length ∷ w .offset ∷ []

@@ -46,10 +46,11 @@ fn tell_answer(full: Answer, words: &mut [u32])
     put(words, 2, full.taken);
     put(words, 3, full.free);
     put(words, 4, full.tracker);
+    put(words, 5, full.offset);
 }
 
-// The same load. Number, place, pages taken, pages free and tracker pages are put into `answer`, as many as fit; what lies beyond
-// stays.
+// The same load. Number, place, pages taken, pages free, tracker pages and offset are put into `answer`, as many as fit; what lies
+// beyond stays.
 #[no_mangle]
 pub extern "C" fn rigpollen_answer(
     block: &[u8],
@@ -174,10 +175,11 @@ fn tell_written(full: Written, words: &mut [u32])
     put(words, 0, full.number);
     put(words, 1, full.place);
     put(words, 2, full.length);
+    put(words, 3, full.offset);
 }
 
-// Writes the boot block of these records to the start of `buffer`; bytes beyond it stay. Number, place and length are put into `answer`, as
-// many as fit; what lies beyond stays. Returns 0; else the number of the refusal, which leaves `buffer` as it came.
+// Writes the boot block of these records to the start of `buffer`; bytes beyond it stay. Number, place, length and offset are put into
+// `answer`, as many as fit; what lies beyond stays. Returns 0; else the number of the refusal, which leaves `buffer` as it came.
 #[no_mangle]
 pub extern "C" fn rigpollen_write_block(
     processes: &[u32],

@@ -1,17 +1,21 @@
 -- 02, A2: "Reading what it wrote gives the same records, and a block that passes refusals 2 to 6 is written back to the same bytes."
+-- 02, A5, of the writer: where in the block to be written a refusal's record is.
 use mathlib.Core.Path.{_≡_, sym}
 use mathlib.Core.Bool.{true}
 use mathlib.Core.List.{List, _++_}
 use Prim.Native.Nat.{ℕ, _≤_}
+use native.Mathlib.Omega.{arith}
 use lib.ListN.{length, take, drop}
 use lib.Seq.{take-at}
 use borrow.Author.Tests.{eq-eqb}
 use Rattle.notation.specs.Choice.{choose}
+use Rattle.laws.specs.Lists.{_and_}
 use Rattle.rules.specs.Block.{processCount, sectionCount, regionCount}
 use Rattle.rules.specs.Block.{lengthFor}
-use Rattle.rules.specs.Refusals.{accepted, refused, wellFormed}
-use Rattle.rules.specs.Writer.{Records, recordsOf, processesIn, sectionsIn, regionsIn, blockOf, written, bufferAfter}
-use Rattle.round_trips.specs.Accepting.{accepts}
+use Rattle.rules.specs.Refusals.{accepted, refused, processChecks, wellFormed}
+use Rattle.rules.specs.Writer.{Records, recordsOf, processesIn, sectionsIn, regionsIn, blockOf, writerChecks, writerVerdict, written, bufferAfter}
+use Rattle.accepted.specs.Located.{Located, whole-located, process-located, all-located}
+use Rattle.round_trips.specs.Accepting.{accepts, writer-numbered}
 use Rattle.round_trips.specs.WrittenBlock.{WordLists, bounded, block-length, processes-read, sections-read, regions-read, records-read}
 use Rattle.round_trips.specs.WellFormed.{block-well-formed}
 use Rattle.round_trips.specs.ReadBlock.{Bytes, same-block, accepted-again, process-count, section-count, region-count, true-length}
@@ -47,10 +51,19 @@ reading-gives-the-records l buffer ws e =
 -- WRITING WHAT WAS READ
 -- THE SECOND: the records of a block that draws none of 2 to 6, written into any buffer that is long enough, give the same bytes
 pub block-is-written-back : (b buffer : List ℕ) → Bytes b → wellFormed b ≡ true → length b ≤ length buffer
-    → (written (recordsOf b) (length buffer) ≡ record { number = 0; place = 0; length = length b }) × (bufferAfter (recordsOf b) buffer ≡ b ++ drop (length b) buffer)
+    → (written (recordsOf b) (length buffer) ≡ record { number = 0; place = 0; length = length b; offset = 0 }) × (bufferAfter (recordsOf b) buffer ≡ b ++ drop (length b) buffer)
 unfolding written bufferAfter accepted refused choose
 block-is-written-back b buffer bytes well h =
     let v = accepted-again b bytes well (length buffer) h in
     let n : lengthFor (processesIn (recordsOf b)) (sectionsIn (recordsOf b)) (regionsIn (recordsOf b)) ≡ length b =
     rw (process-count b bytes well, section-count b bytes well, region-count b bytes well) (sym (true-length b bytes well)) in
     (rw (v, n), rw (v, same-block b bytes well))
+
+-- WHERE A REFUSAL IS: of 6 the process record's place and its offset in the block to be written; on success, for 21 and for 22 both 0
+pub writer-place-and-offset : (l : Records) (room : ℕ)
+    → Located (blockOf l) (refused (written l room .number) (written l room .place) (written l room .offset))
+unfolding written writerVerdict writerChecks processChecks refused
+writer-place-and-offset l room =
+    let b : List ℕ = blockOf l in
+    all-located b 22 (writerChecks l room) (writer-numbered l room)
+    (whole-located b 21 _ (λ h m. omega arith) and whole-located b 22 _ (λ h m. omega arith) and process-located b and tt)

@@ -29,7 +29,8 @@ board entry B region = bytesOf
 unfoldable pub smallBoard : List ℕ
 smallBoard = board 0x0001_0020 0x0002_0000 0xF000_0000
 
--- an example: the block, the bytes of flash, the pages of RAM from 0x40000000 on, and the answer's number, place and free pages
+-- an example: the block, the bytes of flash, the pages of RAM from 0x40000000 on, and the answer's number, place, free pages and
+-- offset
 pub record Example : Type 0 where
   pub block : List ℕ
   pub flash : ℕ
@@ -37,12 +38,15 @@ pub record Example : Type 0 where
   pub number : ℕ
   pub place : ℕ
   pub free : ℕ
+  pub offset : ℕ
 
 unfoldable pub given : Example → Answer
 given x = answerOn (imageOf (x .block) (tab (x .flash) (λ k. 0))) (areaOf 0x4000_0000 (4096 * x .pages))
 
 unfoldable pub exampleHolds : Example → Bool
-exampleHolds x = let a = given x in eqb (a .number) (x .number) && (eqb (a .place) (x .place) && eqb (a .free) (x .free))
+exampleHolds x =
+    let a = given x in
+    eqb (a .number) (x .number) && (eqb (a .place) (x .place) && (eqb (a .free) (x .free) && eqb (a .offset) (x .offset)))
 
 unfoldable pub allHold : List Example → Bool
 allHold [] = true
@@ -51,19 +55,19 @@ allHold (x ∷ xs) = exampleHolds x && allHold xs
 -- P1 to P12, the last with its two halves
 unfoldable pub examples : List Example
 examples =
-    record { block = smallBoard; flash = 320; pages = 16; number = 0; place = 0; free = 1 }
-    ∷ record { block = smallBoard; flash = 320; pages = 15; number = 0; place = 0; free = 0 }
-    ∷ record { block = smallBoard; flash = 320; pages = 14; number = 12; place = 0; free = 0 }
-    ∷ record { block = []; flash = 320; pages = 16; number = 2; place = 0; free = 0 }
-    ∷ record { block = board 0x0001_005F 0x0002_0000 0xF000_0000; flash = 320; pages = 16; number = 0; place = 0; free = 1 }
-    ∷ record { block = board 0x0001_0060 0x0002_0000 0xF000_0000; flash = 320; pages = 16; number = 10; place = 1; free = 0 }
-    ∷ record { block = smallBoard; flash = 319; pages = 16; number = 9; place = 1; free = 0 }
-    ∷ record { block = board 0x0001_0020 0x0001_0060 0xF000_0000; flash = 320; pages = 16; number = 8; place = 2; free = 0 }
-    ∷ record { block = board 0x0001_0020 0x0001_1000 0xF000_0000; flash = 320; pages = 16; number = 0; place = 0; free = 1 }
-    ∷ record { block = board 0x0001_0020 0x7FFF_B000 0xF000_0000; flash = 320; pages = 16; number = 0; place = 0; free = 1 }
-    ∷ record { block = board 0x0001_0020 0x7FFF_B001 0xF000_0000; flash = 320; pages = 16; number = 8; place = 2; free = 0 }
-    ∷ record { block = board 0x0001_0020 0x0002_0000 0x4000_F000; flash = 320; pages = 16; number = 11; place = 0; free = 0 }
-    ∷ record { block = board 0x0001_0020 0x0002_0000 0x4001_0000; flash = 320; pages = 16; number = 0; place = 0; free = 1 }
+    record { block = smallBoard; flash = 320; pages = 16; number = 0; place = 0; free = 1; offset = 0 }
+    ∷ record { block = smallBoard; flash = 320; pages = 15; number = 0; place = 0; free = 0; offset = 0 }
+    ∷ record { block = smallBoard; flash = 320; pages = 14; number = 12; place = 0; free = 0; offset = 0 }
+    ∷ record { block = []; flash = 320; pages = 16; number = 2; place = 0; free = 0; offset = 0 }
+    ∷ record { block = board 0x0001_005F 0x0002_0000 0xF000_0000; flash = 320; pages = 16; number = 0; place = 0; free = 1; offset = 0 }
+    ∷ record { block = board 0x0001_0060 0x0002_0000 0xF000_0000; flash = 320; pages = 16; number = 10; place = 1; free = 0; offset = 48 }
+    ∷ record { block = smallBoard; flash = 319; pages = 16; number = 9; place = 1; free = 0; offset = 80 }
+    ∷ record { block = board 0x0001_0020 0x0001_0060 0xF000_0000; flash = 320; pages = 16; number = 8; place = 2; free = 0; offset = 96 }
+    ∷ record { block = board 0x0001_0020 0x0001_1000 0xF000_0000; flash = 320; pages = 16; number = 0; place = 0; free = 1; offset = 0 }
+    ∷ record { block = board 0x0001_0020 0x7FFF_B000 0xF000_0000; flash = 320; pages = 16; number = 0; place = 0; free = 1; offset = 0 }
+    ∷ record { block = board 0x0001_0020 0x7FFF_B001 0xF000_0000; flash = 320; pages = 16; number = 8; place = 2; free = 0; offset = 96 }
+    ∷ record { block = board 0x0001_0020 0x0002_0000 0x4000_F000; flash = 320; pages = 16; number = 11; place = 0; free = 0; offset = 112 }
+    ∷ record { block = board 0x0001_0020 0x0002_0000 0x4001_0000; flash = 320; pages = 16; number = 0; place = 0; free = 1; offset = 0 }
     ∷ []
 
 -- the definitions above, to be unfolded as one

@@ -57,13 +57,13 @@ ramAfter x r = choose (boots x r) (loaded x r) (r .bytes)
 abbrev pub after : Image → Ram → Ram
 after x r = ramOf (r .start) (ramAfter x r)
 
--- THE FULL ANSWER to a refusal: number, place, and the three counts 0
+-- THE FULL ANSWER to a refusal: number, place, offset, and the three counts 0
 unfoldable pub refusalAnswer : Verdict → Answer
-refusalAnswer v = record { number = v .number; place = v .place; taken = 0; free = 0; tracker = 0 }
+refusalAnswer v = record { number = v .number; place = v .place; taken = 0; free = 0; tracker = 0; offset = v .offset }
 
 -- to a boot on RAM of N pages
 unfoldable pub bootAnswer : List ℕ → ℕ → Answer
-bootAnswer b N = record { number = 0; place = 0; taken = pagesNeeded b N; free = freePages b N; tracker = trackerPages b N }
+bootAnswer b N = record { number = 0; place = 0; taken = pagesNeeded b N; free = freePages b N; tracker = trackerPages b N; offset = 0 }
 
 -- for RAM that lies here; it depends on nothing else of RAM
 unfoldable pub answerOn : Image → Area → Answer

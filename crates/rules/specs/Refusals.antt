@@ -9,11 +9,12 @@ use Rattle.notation.specs.Choice.{choose, any}
 use Rattle.notation.specs.Lists.{sum, findLast, exists}
 use Rattle.types.specs.declared.Area.{Area}
 use Rattle.types.specs.declared.Process.{Process}
+use Rattle.types.specs.declared.RecordCheck.{RecordCheck}
 use Rattle.types.specs.declared.Verdict.{Verdict}
 use Rattle.rules.specs.Lent.{Image, endOf, pagesIn, shareAddress}
 use Rattle.rules.specs.Block.{format, lengthField, processCount, processOffset, sectionCount, sectionOffset, regionCount, regionOffset, sectionsAt, regionsAt, tightLength}
-use Rattle.rules.specs.Block.{entryPoint, firstSection, sectionsOf, processRecord, stackFirst, sectionRecord, address, size, flashOffset, flags, noCopy, writable, executable, sectionEnd, firstPage, lastPage}
-use Rattle.rules.specs.Block.{regionStart, regionPages, regionArea, ioPagesOf}
+use Rattle.rules.specs.Block.{processAt, entryPoint, firstSection, sectionsOf, processRecord, stackFirst, sectionRecord, sectionAt, address, size, flashOffset, flags, noCopy, writable, executable, sectionEnd, firstPage, lastPage}
+use Rattle.rules.specs.Block.{regionAt, regionStart, regionPages, regionArea, ioPagesOf}
 use Rattle.rules.specs.Order.{pagesNeeded}
 
 -- 1: RAM is not whole pages or over 4,096 pages, its start is not a multiple of 4,096, or its end passes 2^32
@@ -136,37 +137,56 @@ regionUnfit b ram i = any
 unfoldable pub ramTooSmall : List ℕ → ℕ → Bool
 ramTooSmall b N = ltb N (pagesNeeded b N)
 
--- THE FIRST REFUSAL
--- one step of the checks
-pub data Check : Type 0 where
-  -- `whole n c`: refusal n, place 0, where c
-  whole : ℕ → Bool → Check
-  -- `records n f`: records 0 to n - 1 in order; f i is the number of the refusal at record i, or 0
-  records : ℕ → (ℕ → ℕ) → Check
+-- THE CHECK OF ONE RECORD: the number of the refusal, or 0, and the record's byte offset in the block
+abbrev pub recordCheck : ℕ → ℕ → RecordCheck
+recordCheck n offset = record { number = n; offset = offset }
 
-unfoldable pub refused : ℕ → ℕ → Verdict
-refused n place = record { number = n; place = place }
+-- 6, of process record i
+unfoldable pub processCheck : List ℕ → ℕ → RecordCheck
+processCheck b i = recordCheck (choose (processUnfit b i) 6 0) (processAt (i + 1))
 
--- number 0, place 0
-unfoldable pub accepted : Verdict
-accepted = refused 0 0
-
--- the first refusal among records k, k + 1, .. k + n - 1, else what follows
-unfoldable pub firstRecord : (ℕ → ℕ) → ℕ → ℕ → Verdict → Verdict
-firstRecord f k zero rest = rest
-firstRecord f k (suc n) rest =
-    let later = firstRecord f (suc k) n rest in
-    choose (eqb (f k) 0) later (refused (f k) k)
-
-unfoldable pub firstRefusal : List Check → Verdict
-firstRefusal [] = accepted
-firstRefusal (whole n c ∷ cs) = let later = firstRefusal cs in choose c (refused n 0) later
-firstRefusal (records n f ∷ cs) = let later = firstRefusal cs in firstRecord f 0 n later
-
--- 7, 8 and 9 together for one section
+-- 7, 8 and 9 together, of section record n
 unfoldable pub sectionRefusal : List ℕ → ℕ → ℕ → ℕ
 sectionRefusal b flash n =
     choose (sectionUnfit b n) 7 (choose (sectionMisplaced b n) 8 (choose (sectionPastFlash b flash n) 9 0))
+
+unfoldable pub sectionCheck : List ℕ → ℕ → ℕ → RecordCheck
+sectionCheck b flash n = recordCheck (sectionRefusal b flash n) (sectionAt b n)
+
+-- 10, of process record i
+unfoldable pub entryPointCheck : List ℕ → ℕ → RecordCheck
+entryPointCheck b i = recordCheck (choose (entryPointOutside b i) 10 0) (processAt (i + 1))
+
+-- 11, of region record i
+unfoldable pub regionCheck : List ℕ → Area → ℕ → RecordCheck
+regionCheck b ram i = recordCheck (choose (regionUnfit b ram i) 11 0) (regionAt b i)
+
+-- THE FIRST REFUSAL
+-- one step of the checks
+pub data Check : Type 0 where
+  -- `whole n c`: refusal n, place and offset 0, where c
+  whole : ℕ → Bool → Check
+  -- `records n f`: records 0 to n - 1 in order; f i is the check of record i
+  records : ℕ → (ℕ → RecordCheck) → Check
+
+unfoldable pub refused : ℕ → ℕ → ℕ → Verdict
+refused n place offset = record { number = n; place = place; offset = offset }
+
+-- number, place and offset 0
+unfoldable pub accepted : Verdict
+accepted = refused 0 0 0
+
+-- the first refusal among records k, k + 1, .. k + n - 1, else what follows
+unfoldable pub firstRecord : (ℕ → RecordCheck) → ℕ → ℕ → Verdict → Verdict
+firstRecord f k zero rest = rest
+firstRecord f k (suc n) rest =
+    let later = firstRecord f (suc k) n rest in
+    choose (eqb (f k .number) 0) later (refused (f k .number) k (f k .offset))
+
+unfoldable pub firstRefusal : List Check → Verdict
+firstRefusal [] = accepted
+firstRefusal (whole n c ∷ cs) = let later = firstRefusal cs in choose c (refused n 0 0) later
+firstRefusal (records n f ∷ cs) = let later = firstRefusal cs in firstRecord f 0 n later
 
 -- ALL CHECKS, in 01's order: of what is lent, of the block alone, of what its records ask for and the room for it
 unfoldable pub lentChecks : Area → List Check
@@ -181,7 +201,7 @@ headerChecks b =
     ∷ []
 
 unfoldable pub processChecks : List ℕ → List Check
-processChecks b = records (processCount b) (λ i. choose (processUnfit b i) 6 0) ∷ []
+processChecks b = records (processCount b) (processCheck b) ∷ []
 
 -- 2 to 6
 unfoldable pub blockChecks : List ℕ → List Check
@@ -191,9 +211,9 @@ blockChecks b = headerChecks b ++ processChecks b
 unfoldable pub contentChecks : Image → Area → List Check
 contentChecks x ram =
     let b = x .block in
-    records (sectionCount b) (sectionRefusal b (length (x .flash)))
-    ∷ records (processCount b) (λ i. choose (entryPointOutside b i) 10 0)
-    ∷ records (regionCount b) (λ i. choose (regionUnfit b ram i) 11 0)
+    records (sectionCount b) (sectionCheck b (length (x .flash)))
+    ∷ records (processCount b) (entryPointCheck b)
+    ∷ records (regionCount b) (regionCheck b ram)
     ∷ whole 12 (ramTooSmall b (pagesIn ram .pages))
     ∷ []
 
@@ -210,5 +230,5 @@ wellFormed b = eqb (firstRefusal (blockChecks b) .number) 0
 
 -- all definitions of this file, to be unfolded as one
 unfoldable pub refusal-rules : Unit {0}
-unfolding ramUnfit blockTooShort formatUnknown outside countsOutside countsOutOfBounds layoutNotTight sectionsBefore recordUnfit processUnfit sectionUnfit hasSection ownerOf rangeFirst rangeLast sectionMisplaced sectionPastFlash entryPointOutside regionUnfit ramTooSmall refused accepted firstRecord firstRefusal sectionRefusal lentChecks headerChecks processChecks blockChecks contentChecks checks verdict wellFormed
+unfolding ramUnfit blockTooShort formatUnknown outside countsOutside countsOutOfBounds layoutNotTight sectionsBefore recordUnfit processUnfit sectionUnfit hasSection ownerOf rangeFirst rangeLast sectionMisplaced sectionPastFlash entryPointOutside regionUnfit ramTooSmall processCheck sectionRefusal sectionCheck entryPointCheck regionCheck refused accepted firstRecord firstRefusal lentChecks headerChecks processChecks blockChecks contentChecks checks verdict wellFormed
 refusal-rules = tt

@@ -71,12 +71,12 @@ writerChecks l room = whole 21 (listsUnfit l) ∷ whole 22 (bufferTooShort l roo
 unfoldable pub writerVerdict : Records → ℕ → Verdict
 writerVerdict l room = firstRefusal (writerChecks l room)
 
--- the writer's answer: on success the length is the tight length, in a refusal 0
+-- the writer's answer: on success the length is the tight length, in a refusal 0; the offset is that in the block to be written
 unfoldable pub written : Records → ℕ → Written
 written l room =
     let v = writerVerdict l room in
     let n = lengthFor (processesIn l) (sectionsIn l) (regionsIn l) in
-    record { number = v .number; place = v .place; length = choose (eqb (v .number) 0) n 0 }
+    record { number = v .number; place = v .place; length = choose (eqb (v .number) 0) n 0; offset = v .offset }
 
 -- the buffer after the call: on success the block, and beyond it the bytes that were there; in a refusal all bytes as they came
 unfoldable pub bufferAfter : Records → List ℕ → List ℕ

@@ -65,7 +65,7 @@ module _ (l : Records) where
   many-regions h = counts-unfit (any-at _ 2 (over 0 32 (regionsIn l) (omega arith)))
 
 -- the writer's answer to lists that draw 21
-unfit-written : (l : Records) (room : ℕ) → listsUnfit l ≡ true → written l room ≡ record { number = 21; place = 0; length = 0 }
+unfit-written : (l : Records) (room : ℕ) → listsUnfit l ≡ true → written l room ≡ record { number = 21; place = 0; length = 0; offset = 0 }
 unfolding written refused choose
 unfit-written l room e = rw (← verdict-21 l room e)
 

@@ -92,11 +92,11 @@ module _ (t : List ℕ) (n : ℕ) (e : n ≡ length (soundLines t)) (l : List �
         let nr : r ≡ length (wordsOf regionWords (soundLines t)) = omega (arith, ar′ .end-is, short .2) in
         (rw np, rw ns, rw nr)
 
-    line-of : choose (eqb (w .number) 0) (blockLine (w .length) (p / 4) (s / 4) (r / 2)) (refusedLine (w .number) (w .place)) ≡ writtenLine (recordsFrom t) w
+    line-of : choose (eqb (w .number) 0) (blockLine (w .length) (p / 4) (s / 4) (r / 2)) (refusedLine (w .number) (w .place) (w .offset)) ≡ writtenLine (recordsFrom t) w
     unfolding writtenLine
     line-of = choose-same (eqb (w .number) 0) _ _ _ (λ z. let c = counts-are (eqb-true _ _ z) in rw (c .0, c .1, c .2))
 
     pub leaves-held : {xs ys : List ℕ} {end : ℕ}
-        → Appended xs 0 (choose (eqb (w .number) 0) (blockLine (w .length) (p / 4) (s / 4) (r / 2)) (refusedLine (w .number) (w .place))) ys end
+        → Appended xs 0 (choose (eqb (w .number) 0) (blockLine (w .length) (p / 4) (s / 4) (r / 2)) (refusedLine (w .number) (w .place) (w .offset))) ys end
         → Leaves t d d′ xs ys (w .length) end
     leaves-held q = leaves-written h d d′ w answer-is buffer-is (rw line-of at q)

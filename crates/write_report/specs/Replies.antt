@@ -31,7 +31,7 @@ unfoldable pub writtenLine : Records → Written → List ℕ
 writtenLine l w =
     choose (eqb (w .number) 0)
     (blockLine (w .length) (processesIn l) (sectionsIn l) (regionsIn l))
-    (refusedLine (w .number) (w .place))
+    (refusedLine (w .number) (w .place) (w .offset))
 
 -- the reply, where the block's buffer has `room` bytes
 unfoldable pub replyTo : List ℕ → ℕ → List ℕ

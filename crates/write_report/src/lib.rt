@@ -156,10 +156,10 @@ fn put_block(to: &mut [u8], length: u32, p: usize, s: usize, r: usize) -> usize
 
 // What was written, from so many words of records of each kind, or the refusal.
 fn put_written(to: &mut [u8], written: Written, p: usize, s: usize, r: usize) -> usize
-    ensures { λ end. ⌜ Appended (now (to .entry)) 0 (choose (eqb (written .number) 0) (blockLine (written .length) (p / 4) (s / 4) (r / 2)) (refusedLine (written .number) (written .place))) (now (to .exit)) end ⌝ }
+    ensures { λ end. ⌜ Appended (now (to .entry)) 0 (choose (eqb (written .number) 0) (blockLine (written .length) (p / 4) (s / 4) (r / 2)) (refusedLine (written .number) (written .place) (written .offset))) (now (to .exit)) end ⌝ }
 {
     if written.number != 0 {
-        return refusal_line::put_refused(to, 0, written.number, written.place);
+        return refusal_line::put_refused(to, 0, written.number, written.place, written.offset);
     }
     put_block(to, written.length, p / 4, s / 4, r / 2)
 }

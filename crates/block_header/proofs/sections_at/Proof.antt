@@ -4,9 +4,6 @@ use borrow.Author.Needs.{needs}
 use Rattle.rules.specs.Block.{sectionsAt}
 use Rattle.block_header.proofs.sections_at.Statement.{statement}
 use Rattle.block_header.proofs.sections_at.Tie as tie
-use Rattle.block_header.proofs.sections_at.Reads as reads
-use Rattle.block_header.proofs.sections_at.Lts as lts
-use Rattle.block_header.proofs.process_count.Reads as process-count-reads
 
 process-count-requires : tie.Need-process-count-requires
 process-count-requires c κs = search needs

@@ -1,12 +1,12 @@
-use mathlib.Core.Path.{_≡_, refl, _∙_}
+use mathlib.Core.Path.{_≡_, _∙_}
 use Prim.Native.Nat.{_-_, _*_, _≤_}
 use native.Mathlib.Nat.{sub-zero}
 use native.Mathlib.Omega.{arith}
 use borrow.Author.Needs.{needs}
 use Rattle.rules.specs.Refusals.{refused, accepted, firstRecord, firstRefusal}
 use Rattle.accepted.specs.InOrder.{scan-end, scan-next, scan-stop}
-use Rattle.block_writer.specs.Lists.{sectionsBeforeIn, refusalIn, processRefusal}
-use Rattle.block_writer.proofs.Refusing.{sections-none, sections-next, draws-6, draws-none}
+use Rattle.block_writer.specs.Lists.{sectionsBeforeIn, checkIn, processRefusal}
+use Rattle.block_writer.proofs.Refusing.{sections-none, sections-next, checked-in, offset-fits}
 use Rattle.block_writer.proofs.process_refusal.Statement.{statement}
 use Rattle.block_writer.proofs.process_refusal.Tie as tie
 
@@ -14,7 +14,7 @@ use Rattle.block_writer.proofs.process_refusal.Tie as tie
 abbrev Inv-loop : tie.InvT-loop
 Inv-loop processes s p before₀ i₀ before i =
     (i ≤ p) × (before ≡ sectionsBeforeIn processes i) × (before ≤ 4294967295 * i)
-    × (firstRecord (refusalIn processes s) i (p - i) accepted ≡ processRefusal processes s)
+    × (firstRecord (checkIn processes s) i (p - i) accepted ≡ processRefusal processes s)
 
 abbrev μ-loop : tie.MeasureT-loop
 μ-loop processes s p before₀ i₀ before i = p - i
@@ -29,15 +29,21 @@ loop-holds c = (search needs, sections-none _, search needs, rw sub-zero)
 process-in-requires : tie.Need-process-in-requires Inv-loop μ-loop
 process-in-requires c κs = search needs
 
-record-unfit-requires : tie.Need-record-unfit-requires Inv-loop μ-loop
-record-unfit-requires c κs = search needs
+check-record-requires : tie.Need-check-record-requires Inv-loop μ-loop
+check-record-requires c κs = search needs
+
+cast-t11 : tie.Need-cast-t11 Inv-loop μ-loop
+cast-t11 c =
+    let k = c .before .before .before in
+    omega (arith, offset-fits _ (k .check-record .ensures) (omega (arith, k .before .before .loop-test .taken)))
 
 returns : tie.Need-returns Inv-loop μ-loop
 unfolding refused
 returns c =
-    let l = c .before .before .before .before in
-    let six = draws-6 _ _ (l .loop .i) (c .before .before .process-in .ensures) (l .loop .inv .1) (c .before .record-unfit .ensures) (c .if1 .taken) in
-    scan-stop _ _ _ _ 6 (c .before .before .before .loop-test .taken) six (λ z. omega arith) ∙ l .loop .inv .3
+    let k = c .before .before .before in
+    let l = k .before .before .before in
+    let is = checked-in _ _ (l .loop .i) (k .before .process-in .ensures) (l .loop .inv .1) (k .check-record .ensures) in
+    scan-stop _ _ _ _ _ (k .before .before .loop-test .taken) is (c .before .if1 .taken) ∙ l .loop .inv .3
 
 cast-before : tie.Need-cast-before Inv-loop μ-loop
 cast-before c = search needs
@@ -53,13 +59,14 @@ loop-less c = search needs
 
 loop-again : tie.Need-loop-again Inv-loop μ-loop
 loop-again c =
-    let l = c .before .before .before .before .before in
-    let is = c .before .before .before .process-in .ensures in
-    let none = draws-none _ _ (l .loop .i) is (l .loop .inv .1) (c .before .before .record-unfit .ensures) (c .before .if1 .left) in (
+    let k = c .before .before .before in
+    let l = k .before .before .before in
+    let process = k .before .process-in .ensures in
+    let is = checked-in _ _ (l .loop .i) process (l .loop .inv .1) (k .check-record .ensures) in (
       omega arith,
-      rw (sections-next, ← is, ← l .loop .inv .1),
+      rw (sections-next, ← process, ← l .loop .inv .1),
       omega arith,
-      scan-next _ _ _ _ 0 (c .before .before .before .before .loop-test .taken) none refl ∙ l .loop .inv .3,
+      scan-next _ _ _ _ _ (k .before .before .loop-test .taken) is (c .before .if1 .left) ∙ l .loop .inv .3,
     )
 
 returns-2 : tie.Need-returns-2 Inv-loop μ-loop
@@ -75,7 +82,8 @@ process-refusal-spec =
     cast-p
     loop-holds
     process-in-requires
-    record-unfit-requires
+    check-record-requires
+    cast-t11
     returns
     cast-before
     add-before

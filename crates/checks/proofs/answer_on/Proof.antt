@@ -3,7 +3,7 @@ use native.Mathlib.Omega.{arith}
 use borrow.Author.Needs.{needs}
 use Rattle.notation.specs.Choice.{choose}
 use Rattle.accepted.specs.InOrder.{passes, refuses}
-use Rattle.checks.proofs.Verdicts.{verdict-then, few-pages, few-processes}
+use Rattle.checks.proofs.Verdicts.{verdict-then, few-pages, counted}
 use Rattle.checks.proofs.Answers.{refused-answer, room-left}
 use Rattle.checks.proofs.answer_on.Statement.{statement}
 use Rattle.checks.proofs.answer_on.Tie as tie
@@ -43,7 +43,8 @@ cast-room-answer c =
     omega (arith, few-pages _ _ (l .before .before .lent-refusal .ensures) (l .if1 .left))
 
 record-refusal-requires : tie.Need-record-refusal-requires
-record-refusal-requires c κs = search needs
+record-refusal-requires c κs =
+    counted _ _ (c .before .before .header-refusal .ensures) (c .if2 .left)
 
 refusal-requires-3 : tie.Need-refusal-requires-3
 refusal-requires-3 c κs = search needs
@@ -64,7 +65,7 @@ room-answer-requires : tie.Need-room-answer-requires
 room-answer-requires c κs =
     let h = c .before .before .before .before in
     let l = h .before .before .before in
-    (few-pages _ _ (l .before .before .lent-refusal .ensures) (l .if1 .left), few-processes _ _ (h .before .before .header-refusal .ensures) (h .if2 .left))
+    (few-pages _ _ (l .before .before .lent-refusal .ensures) (l .if1 .left), counted _ _ (h .before .before .header-refusal .ensures) (h .if2 .left) .few-processes)
 
 returns-4 : tie.Need-returns-4
 unfolding choose

@@ -6,8 +6,9 @@ use native.Mathlib.Omega.{arith}
 use borrow.Author.Needs.{needs}
 use Rattle.rules.specs.Lent.{imageOf}
 use Rattle.rules.specs.Refusals.{accepted, firstRecord, firstRefusal}
-use Rattle.checks.specs.Scan.{refusalAt, scanOf}
+use Rattle.checks.specs.Scan.{checkAt, scanOf}
 use Rattle.accepted.specs.InOrder.{scan-end, scan-next, scan-stop}
+use Rattle.checks.proofs.Verdicts.{offset-fits}
 use Rattle.checks.proofs.scan_refusal.Statement.{statement}
 use Rattle.checks.proofs.scan_refusal.Tie as tie
 
@@ -15,7 +16,7 @@ use Rattle.checks.proofs.scan_refusal.Tie as tie
 abbrev Inv-loop : tie.InvT-loop
 Inv-loop scan block flash ram n i₀ i =
     let x = imageOf block flash in
-    (i ≤ n) × (firstRecord (refusalAt scan x ram) i (n - i) accepted ≡ firstRefusal (scanOf scan x ram ∷ []))
+    (i ≤ n) × (firstRecord (checkAt scan x ram) i (n - i) accepted ≡ firstRefusal (scanOf scan x ram ∷ []))
 
 abbrev μ-loop : tie.MeasureT-loop
 μ-loop scan block flash ram n i₀ i = n - i
@@ -27,17 +28,22 @@ loop-holds : tie.Need-loop-holds Inv-loop μ-loop
 unfolding firstRefusal
 loop-holds c = (search needs, rw (sub-zero, c .record-count .ensures))
 
-refusal-at-requires : tie.Need-refusal-at-requires Inv-loop μ-loop
-refusal-at-requires c κs = search needs
+check-at-requires : tie.Need-check-at-requires Inv-loop μ-loop
+check-at-requires c κs = search needs
+
+cast-refused : tie.Need-cast-refused Inv-loop μ-loop
+cast-refused c =
+    let k = c .before .before .before in
+    let l = k .before .before in
+    omega (arith, offset-fits _ _ _ _ _ _ (l .before .before .before .before .pre) (l .before .record-count .ensures) (k .before .loop-test .taken) (k .check-at .ensures))
 
 refused-requires : tie.Need-refused-requires Inv-loop μ-loop
 refused-requires c κs = search needs
 
 returns : tie.Need-returns Inv-loop μ-loop
 returns c =
-    let t = c .before .before in
-    let l = t .before .before in
-    c .refused .ensures ∙ scan-stop _ _ _ _ _ (t .before .loop-test .taken) (t .refusal-at .ensures) (c .before .if1 .taken) ∙ l .loop .inv .1
+    let k = c .before .before .before .before in
+    c .refused .ensures ∙ scan-stop _ _ _ _ _ (k .before .loop-test .taken) (k .check-at .ensures) (c .before .before .if1 .taken) ∙ k .before .before .loop .inv .1
 
 add-i : tie.Need-add-i Inv-loop μ-loop
 add-i c = search needs
@@ -47,8 +53,8 @@ loop-less c = search needs
 
 loop-again : tie.Need-loop-again Inv-loop μ-loop
 loop-again c =
-    let l = c .before .before .before in
-    (omega arith, scan-next _ _ _ _ _ (c .before .before .loop-test .taken) (c .before .refusal-at .ensures) (c .if1 .left) ∙ l .loop .inv .1)
+    let k = c .before .before in
+    (omega arith, scan-next _ _ _ _ _ (k .before .loop-test .taken) (k .check-at .ensures) (c .if1 .left) ∙ k .before .before .loop .inv .1)
 
 refused-requires-2 : tie.Need-refused-requires-2 Inv-loop μ-loop
 refused-requires-2 c κs = search needs
@@ -65,7 +71,8 @@ scan-refusal-spec =
     μ-loop
     record-count-requires
     loop-holds
-    refusal-at-requires
+    check-at-requires
+    cast-refused
     refused-requires
     returns
     add-i

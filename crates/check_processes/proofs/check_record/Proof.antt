@@ -1,0 +1,16 @@
+use mathlib.Core.Path.{_∙_}
+use borrow.Author.Needs.{needs}
+use Rattle.check_processes.proofs.check_record.Statement.{statement}
+use Rattle.check_processes.proofs.check_record.Tie as tie
+
+record-unfit-requires : tie.Need-record-unfit-requires
+record-unfit-requires c κs = search needs
+
+process-check-requires : tie.Need-process-check-requires
+process-check-requires c κs = search needs
+
+returns : tie.Need-returns
+returns c = c .process-check .ensures ∙ rw (c .before .record-unfit .ensures)
+
+pub check-record-spec : {M : Type 1} → statement M
+check-record-spec = tie.close (tie.spec record-unfit-requires process-check-requires returns)
