@@ -1,6 +1,6 @@
 -- Answers as the words that C gets.
 use mathlib.Core.List.{List, [], _∷_}
-use Prim.Native.Nat.{ℕ, _+_, _*_, _%_}
+use Prim.Native.Nat.{ℕ, _+_, _%_}
 use lib.Dec.{eqb}
 use Rattle.notation.specs.Choice.{choose}
 use Rattle.types.specs.declared.Area.{Area}
