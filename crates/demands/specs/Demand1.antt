@@ -1,6 +1,6 @@
 -- DEMAND 1: "Whatever bytes arrive as block, flash and RAM, the loader ends with success or with one refusal of document 01, exactly
--- when 01 says. A refusal returns number, place and zero counts and leaves RAM untouched." Since 02's A5 it returns the byte offset of
--- its record in the block too.
+-- when 01 says. A refusal returns number, place and zero counts and leaves RAM untouched."
+-- 02, A5: it returns the byte offset of its record in the block too.
 use mathlib.Core.Path.{_≡_, refl}
 use mathlib.Core.Logic.{_≢_, _↔_}
 use Prim.Native.Nat.{_≤_}
