@@ -16,7 +16,7 @@ use Rattle.types.specs.declared.Area.{Area}
 use Rattle.types.specs.declared.RecordCheck.{RecordCheck}
 use Rattle.types.specs.declared.Verdict.{Verdict}
 use Rattle.rules.specs.Lent.{Image}
-use Rattle.rules.specs.Refusals.{Check, whole, records, refused, accepted, firstRecord, firstRefusal, processCheck, sectionRefusal, sectionCheck, entryPointCheck, regionCheck, lentChecks, headerChecks, processChecks, blockChecks, contentChecks, checks, verdict}
+use Rattle.rules.specs.Refusals.{Check, whole, records, refused, accepted, firstRecord, firstRefusal, processRecordCheck, processCheck, sectionRefusal, sectionCheck, entryPointCheck, regionCheck, lentChecks, headerChecks, processChecks, blockChecks, contentChecks, checks, verdict}
 use Rattle.laws.specs.Choice.{by-choose}
 use Rattle.laws.specs.Lists.{Every, _and_, every-at}
 
@@ -138,7 +138,7 @@ section-number b flash n =
     by-choose (λ m. m ≤ 12) _ 7 _ (λ _. omega arith) (λ _. by-choose (λ m. m ≤ 12) _ 8 _ (λ _. omega arith) (λ _. one-number _ 9 12 (omega arith)))
 
 pub numbered : (x : Image) (ram : Area) → Every (Numbered 12) (checks x ram)
-unfolding checks lentChecks headerChecks processChecks blockChecks contentChecks processCheck sectionCheck entryPointCheck regionCheck
+unfolding checks lentChecks headerChecks processChecks blockChecks contentChecks processRecordCheck processCheck sectionCheck entryPointCheck regionCheck
 numbered x ram =
     (omega arith) and (omega arith) and (omega arith) and (omega arith) and (omega arith) and (λ i. one-number _ 6 12 (omega arith)) and section-number (x .block) _
     and (λ i. one-number _ 10 12 (omega arith)) and (λ i. one-number _ 11 12 (omega arith)) and (omega arith) and tt

@@ -10,7 +10,7 @@ use Rattle.types.specs.declared.Area.{Area}
 use Rattle.types.specs.declared.Verdict.{Verdict}
 use Rattle.rules.specs.Lent.{Image}
 use Rattle.rules.specs.Block.{processCount, sectionCount, regionCount, sectionsAt, regionsAt, processAt, sectionAt, regionAt}
-use Rattle.rules.specs.Refusals.{Check, whole, records, processCheck, sectionRefusal, sectionCheck, entryPointCheck, regionCheck, refused, accepted, firstRefusal}
+use Rattle.rules.specs.Refusals.{Check, whole, records, processRecordCheck, processCheck, sectionRefusal, sectionCheck, entryPointCheck, regionCheck, refused, accepted, firstRefusal}
 use Rattle.rules.specs.Refusals.{lentChecks, headerChecks, processChecks, blockChecks, contentChecks, checks, verdict}
 use Rattle.laws.specs.Choice.{by-choose}
 use Rattle.laws.specs.Lists.{Every, _and_, every-at}
@@ -54,7 +54,7 @@ module _ (b : List ℕ) where
       }
 
   pub process-located : Locates b (records (processCount b) (processCheck b))
-  unfolding processCheck processAt
+  unfolding processRecordCheck processCheck processAt
   process-located v h r =
       let six : v .number ≡ 6 = the-number _ 6 _ (r .1) h in
       record {

@@ -13,7 +13,7 @@ use Rattle.types.specs.declared.Answer.{Answer}
 use Rattle.rules.specs.Lent.{Image, Ram, ramArea, pagesIn}
 use Rattle.rules.specs.Block.{processCount, sectionCount, regionCount}
 use Rattle.rules.specs.Refusals.{ramUnfit, blockTooShort, formatUnknown, countsOutOfBounds, layoutNotTight, processUnfit, sectionUnfit, sectionMisplaced, sectionPastFlash}
-use Rattle.rules.specs.Refusals.{entryPointOutside, regionUnfit, ramTooSmall, processCheck, sectionRefusal, sectionCheck, entryPointCheck, regionCheck, refused, accepted, lentChecks, headerChecks, processChecks, blockChecks, contentChecks, checks, verdict}
+use Rattle.rules.specs.Refusals.{entryPointOutside, regionUnfit, ramTooSmall, processRecordCheck, processCheck, sectionRefusal, sectionCheck, entryPointCheck, regionCheck, refused, accepted, lentChecks, headerChecks, processChecks, blockChecks, contentChecks, checks, verdict}
 use Rattle.rules.specs.Load.{boots, bootAnswer, refusalAnswer, answerOn}
 use Rattle.laws.specs.Choice.{by-choose}
 use Rattle.laws.specs.Lists.{Every}
@@ -50,7 +50,7 @@ none-of-7-8-9 b flash n e =
 
 -- the list of checks, taken apart: the one place that goes by position
 from-checks : (x : Image) (ram : Area) → Every Passes (checks x ram) → NoCause x ram
-unfolding checks lentChecks headerChecks processChecks blockChecks contentChecks processCheck sectionCheck entryPointCheck regionCheck
+unfolding checks lentChecks headerChecks processChecks blockChecks contentChecks processUnfit processRecordCheck processCheck sectionCheck entryPointCheck regionCheck
 from-checks x ram (one, (two, (three, (four, (five, (six, (sections, (ten, (eleven, (twelve, end)))))))))) = record {
   ram-fit = one;
   block-long = two;

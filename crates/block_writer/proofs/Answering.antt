@@ -12,7 +12,7 @@ use Rattle.laws.specs.Counts.{sum-same}
 use Rattle.laws.specs.Lists.{every-of-get}
 use Rattle.types.specs.declared.Verdict.{Verdict}
 use Rattle.rules.specs.Block.{lengthFor, entryPoint, firstSection, sectionsOf, kind, processAt, processRecord}
-use Rattle.rules.specs.Refusals.{sectionsBefore, processUnfit, processCheck, refused, accepted, firstRefusal, processChecks}
+use Rattle.rules.specs.Refusals.{sectionsBefore, processCheck, refused, accepted, firstRefusal, processChecks}
 use Rattle.rules.specs.Writer.{Records, processesIn, sectionsIn, regionsIn, blockOf, listsUnfit, bufferTooShort, writerChecks, writerVerdict, written, bufferAfter}
 use Rattle.accepted.specs.InOrder.{scan-same}
 use Rattle.round_trips.specs.Accepting.{accepts, accepted-whole}
@@ -35,7 +35,7 @@ module _ (l : Records) (ok : Bounded l) (ws : WordLists l) where
   sum-is i h = sum-same i _ _ (λ k m. ap (λ r. r .sections) (record-same k (omega arith)))
 
   pub refusal-6 : processRefusal (l .processes) (sectionsIn l) ≡ firstRefusal (processChecks (blockOf l))
-  unfolding processRefusal processChecks processCheck firstRefusal checkIn processUnfit
+  unfolding processRefusal processChecks processCheck firstRefusal checkIn
   refusal-6 = rw (processes-read l ok ws)
       (scan-same _ _ 0 (processesIn l) accepted (λ i z h.
       rw (processes-read l ok ws, sections-read l ok ws, record-same i (omega arith), sum-is i (omega arith))))

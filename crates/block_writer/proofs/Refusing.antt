@@ -4,12 +4,11 @@ use mathlib.Core.List.{List}
 use Prim.Native.Nat.{ℕ, _+_, _/_, _<_}
 use native.Mathlib.Omega.{arith}
 use lib.ListN.{length}
-use Rattle.notation.specs.Choice.{choose}
 use Rattle.laws.specs.Counts.{sum-none, sum-next}
 use Rattle.types.specs.declared.Process.{Process}
 use Rattle.types.specs.declared.RecordCheck.{RecordCheck}
 use Rattle.rules.specs.Block.{processAt}
-use Rattle.rules.specs.Refusals.{recordUnfit, recordCheck}
+use Rattle.rules.specs.Refusals.{processRecordCheck}
 use Rattle.block_writer.specs.Lists.{processIn, sectionsBeforeIn, checkIn}
 
 pub sections-none : (ws : List ℕ) → 0 ≡ sectionsBeforeIn ws 0
@@ -22,10 +21,10 @@ sections-next ws n = sum-next n _
 
 -- what the check of record i returned, where it was given the record and the sum before it
 pub checked-in : (ws : List ℕ) (s i : ℕ) {before : ℕ} {x : Process} {r : RecordCheck} → x ≡ processIn ws i → before ≡ sectionsBeforeIn ws i
-    → r ≡ recordCheck (choose (recordUnfit x i (length ws / 4) before s) 6 0) (processAt (i + 1)) → r ≡ checkIn ws s i
+    → r ≡ processRecordCheck x i (length ws / 4) before s → r ≡ checkIn ws s i
 unfolding checkIn
 checked-in ws s i is sum-is e = rw (← is, ← sum-is) e
 
-pub offset-fits : {i : ℕ} {r : RecordCheck} (n : ℕ) → r ≡ recordCheck n (processAt (i + 1)) → i < 16 → r .offset < 0x1_0000_0000
-unfolding processAt
-offset-fits n e h = rw e (omega arith)
+pub offset-fits : (x : Process) (i p before s : ℕ) {r : RecordCheck} → r ≡ processRecordCheck x i p before s → i < 16 → r .offset < 0x1_0000_0000
+unfolding processRecordCheck processAt
+offset-fits x i p before s e h = rw e (omega arith)

@@ -2,13 +2,11 @@
 use mathlib.Core.List.{List, [], _∷_, _++_}
 use Prim.Native.Nat.{ℕ, _+_, _*_, _/_}
 use lib.ListN.{length, getD, drop}
-use Rattle.notation.specs.Choice.{choose}
 use Rattle.notation.specs.Lists.{sum}
 use Rattle.types.specs.declared.Process.{Process}
 use Rattle.types.specs.declared.RecordCheck.{RecordCheck}
 use Rattle.types.specs.declared.Verdict.{Verdict}
-use Rattle.rules.specs.Block.{processAt}
-use Rattle.rules.specs.Refusals.{recordUnfit, recordCheck, records, firstRefusal}
+use Rattle.rules.specs.Refusals.{processRecordCheck, records, firstRefusal}
 use Rattle.rules.specs.Writer.{Records, blockOf}
 
 -- process record i of the list
@@ -26,7 +24,7 @@ sectionsBeforeIn ws n = sum n (λ i. processIn ws i .sections)
 
 -- the check for 6 of process record i, where there are s sections
 unfoldable pub checkIn : List ℕ → ℕ → ℕ → RecordCheck
-checkIn ws s i = recordCheck (choose (recordUnfit (processIn ws i) i (length ws / 4) (sectionsBeforeIn ws i) s) 6 0) (processAt (i + 1))
+checkIn ws s i = processRecordCheck (processIn ws i) i (length ws / 4) (sectionsBeforeIn ws i) s
 
 -- the first refusal 6
 unfoldable pub processRefusal : List ℕ → ℕ → Verdict

@@ -8,7 +8,7 @@ ghost use Prim.Native.Nat.{_+_, _*_, _≤_};
 ghost use lib.Dec.{leb, ltb};
 ghost use Rattle.notation.specs.Choice.{choose};
 ghost use Rattle.rules.specs.Block.{processAt, address, executable, sectionEnd};
-ghost use Rattle.rules.specs.Refusals.{sectionsBefore, recordUnfit, entryPointOutside, recordCheck, processCheck, entryPointCheck};
+ghost use Rattle.rules.specs.Refusals.{sectionsBefore, recordUnfit, entryPointOutside, recordCheck, processRecordCheck, processCheck, entryPointCheck};
 
 // The sections of the first n process records.
 fn sections_before(block: &[u8], n: u32) -> u64
@@ -57,7 +57,7 @@ fn process_check(given: bool, number: u32, i: u32) -> RecordCheck
 
 // The check for 6 of a process record, number i of p: `before` is the sum of the section counts before it.
 pub fn check_record(process: Process, i: u32, p: u32, before: u64, s: u32) -> RecordCheck
-    ensures { λ r. ⌜ r ≡ recordCheck (choose (recordUnfit process i p before s) 6 0) (processAt (i + 1)) ⌝ }
+    ensures { λ r. ⌜ r ≡ processRecordCheck process i p before s ⌝ }
 {
     process_check(record_unfit(process, i, p, before, s), 6, i)
 }

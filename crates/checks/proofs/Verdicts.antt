@@ -12,7 +12,7 @@ use Rattle.types.specs.declared.RecordCheck.{RecordCheck}
 use Rattle.types.specs.declared.Verdict.{Verdict}
 use Rattle.rules.specs.Lent.{Image, pagesIn}
 use Rattle.rules.specs.Block.{sectionsAt, regionsAt, processAt, sectionAt, regionAt}
-use Rattle.rules.specs.Refusals.{Check, whole, ramUnfit, outside, countsOutside, countsOutOfBounds, ramTooSmall, processCheck, sectionCheck, entryPointCheck, regionCheck, refused, accepted, firstRefusal}
+use Rattle.rules.specs.Refusals.{Check, whole, ramUnfit, outside, countsOutside, countsOutOfBounds, ramTooSmall, processRecordCheck, processCheck, sectionCheck, entryPointCheck, regionCheck, refused, accepted, firstRefusal}
 use Rattle.rules.specs.Refusals.{lentChecks, headerChecks, processChecks, blockChecks, contentChecks, checks, verdict}
 use Rattle.accepted.specs.InOrder.{firstOf, first-of-both, step, one-whole, whole-not-given}
 use Rattle.checks.specs.declared.Scan.{Scan}
@@ -69,7 +69,7 @@ counted b v e z =
 
 -- and so where a record is
 record-near : (scan : Scan) (x : Image) (ram : Area) (i : ℕ) → Counted (x .block) → i < recordCount scan (x .block) → checkAt scan x ram i .offset < 0x1_0000_0000
-unfolding recordCount checkAt processCheck sectionCheck entryPointCheck regionCheck processAt sectionAt regionAt sectionsAt regionsAt
+unfolding recordCount checkAt processRecordCheck processCheck sectionCheck entryPointCheck regionCheck processAt sectionAt regionAt sectionsAt regionsAt
 record-near Processes x ram i c h = omega (arith, c .few-processes)
 record-near Sections x ram i c h = omega (arith, c .few-processes, c .few-sections)
 record-near EntryPoints x ram i c h = omega (arith, c .few-processes)

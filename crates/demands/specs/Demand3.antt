@@ -19,7 +19,7 @@ use Rattle.rules.specs.Lent.{Image, Ram, ramArea, pagesIn}
 use Rattle.rules.specs.Block.{processCount, sectionCount}
 use Rattle.rules.specs.Space.{Data, Mapping, unmapped, stack, maps, inTracker, kernelPage, mappingAt}
 use Rattle.rules.specs.Order.{order, trackerPages, pagesNeeded}
-use Rattle.rules.specs.Refusals.{blockTooShort, formatUnknown, countsOutOfBounds, layoutNotTight, ramTooSmall, processCheck, sectionRefusal, sectionCheck, entryPointCheck, regionCheck}
+use Rattle.rules.specs.Refusals.{blockTooShort, formatUnknown, countsOutOfBounds, layoutNotTight, ramTooSmall, processUnfit, processRecordCheck, processCheck, sectionRefusal, sectionCheck, entryPointCheck, regionCheck}
 use Rattle.rules.specs.Refusals.{Check, whole, records, lentChecks, headerChecks, processChecks, blockChecks, contentChecks, checks, verdict}
 use Rattle.rules.specs.Contents.{tracker, processWord, processListByte}
 use Rattle.rules.specs.Load.{boots, bootAnswer, answerOn, answer}
@@ -50,7 +50,7 @@ region-only b ram n v h _ no-11 r =
 
 -- what passes for one RAM draws no other number for a larger one
 only-1-and-11 : (x : Image) (ram ram′ : Area) → pagesIn ram .pages ≤ pagesIn ram′ .pages → NoCause x ram → Every Only (checks x ram′)
-unfolding checks lentChecks headerChecks processChecks blockChecks contentChecks processCheck sectionRefusal sectionCheck entryPointCheck ramTooSmall choose
+unfolding checks lentChecks headerChecks processChecks blockChecks contentChecks processUnfit processRecordCheck processCheck sectionRefusal sectionCheck entryPointCheck ramTooSmall choose
 only-1-and-11 x ram ram′ l ok =
     let b : List ℕ = x .block in
     let enough : pagesNeeded b (pagesIn ram .pages) ≤ pagesIn ram .pages = ltb-false _ _ (ok .room) in

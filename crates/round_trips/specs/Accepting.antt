@@ -5,16 +5,16 @@ use mathlib.Core.List.{List}
 use Prim.Native.Nat.{ℕ}
 use native.Mathlib.Omega.{arith}
 use Rattle.laws.specs.Lists.{Every, _and_}
-use Rattle.rules.specs.Refusals.{processCheck, accepted, headerChecks, processChecks, blockChecks}
+use Rattle.rules.specs.Refusals.{processRecordCheck, processCheck, accepted, headerChecks, processChecks, blockChecks}
 use Rattle.rules.specs.Writer.{Records, blockOf, listsUnfit, bufferTooShort, writerChecks, writerVerdict}
 use Rattle.accepted.specs.Checks.{Passes, Numbered, one-number, all-checks-pass, all-checks-accepted}
 
 pub block-numbered : (b : List ℕ) → Every (Numbered 12) (blockChecks b)
-unfolding blockChecks headerChecks processChecks processCheck
+unfolding blockChecks headerChecks processChecks processRecordCheck processCheck
 block-numbered b = (omega arith) and (omega arith) and (omega arith) and (omega arith) and (λ i. one-number _ 6 12 (omega arith)) and tt
 
 pub writer-numbered : (l : Records) (room : ℕ) → Every (Numbered 22) (writerChecks l room)
-unfolding writerChecks processChecks processCheck
+unfolding writerChecks processChecks processRecordCheck processCheck
 writer-numbered l room = (omega arith) and (omega arith) and (λ i. one-number _ 6 22 (omega arith)) and tt
 
 -- what the writer's number 0 says: not 21, not 22, not 6

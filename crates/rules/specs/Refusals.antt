@@ -141,9 +141,12 @@ ramTooSmall b N = ltb N (pagesNeeded b N)
 abbrev pub recordCheck : ℕ → ℕ → RecordCheck
 recordCheck n offset = record { number = n; offset = offset }
 
--- 6, of process record i
+-- 6, of a process record, number i of p, with `before` and s as in `recordUnfit`; and of process record i of a block
+unfoldable pub processRecordCheck : Process → ℕ → ℕ → ℕ → ℕ → RecordCheck
+processRecordCheck r i p before s = recordCheck (choose (recordUnfit r i p before s) 6 0) (processAt (i + 1))
+
 unfoldable pub processCheck : List ℕ → ℕ → RecordCheck
-processCheck b i = recordCheck (choose (processUnfit b i) 6 0) (processAt (i + 1))
+processCheck b i = processRecordCheck (processRecord b (i + 1)) i (processCount b) (sectionsBefore b i) (sectionCount b)
 
 -- 7, 8 and 9 together, of section record n
 unfoldable pub sectionRefusal : List ℕ → ℕ → ℕ → ℕ
@@ -230,5 +233,5 @@ wellFormed b = eqb (firstRefusal (blockChecks b) .number) 0
 
 -- all definitions of this file, to be unfolded as one
 unfoldable pub refusal-rules : Unit {0}
-unfolding ramUnfit blockTooShort formatUnknown outside countsOutside countsOutOfBounds layoutNotTight sectionsBefore recordUnfit processUnfit sectionUnfit hasSection ownerOf rangeFirst rangeLast sectionMisplaced sectionPastFlash entryPointOutside regionUnfit ramTooSmall processCheck sectionRefusal sectionCheck entryPointCheck regionCheck refused accepted firstRecord firstRefusal lentChecks headerChecks processChecks blockChecks contentChecks checks verdict wellFormed
+unfolding ramUnfit blockTooShort formatUnknown outside countsOutside countsOutOfBounds layoutNotTight sectionsBefore recordUnfit processUnfit sectionUnfit hasSection ownerOf rangeFirst rangeLast sectionMisplaced sectionPastFlash entryPointOutside regionUnfit ramTooSmall processRecordCheck processCheck sectionRefusal sectionCheck entryPointCheck regionCheck refused accepted firstRecord firstRefusal lentChecks headerChecks processChecks blockChecks contentChecks checks verdict wellFormed
 refusal-rules = tt

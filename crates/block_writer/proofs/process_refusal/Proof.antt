@@ -35,7 +35,7 @@ check-record-requires c κs = search needs
 cast-t11 : tie.Need-cast-t11 Inv-loop μ-loop
 cast-t11 c =
     let k = c .before .before .before in
-    omega (arith, offset-fits _ (k .check-record .ensures) (omega (arith, k .before .before .loop-test .taken)))
+    omega (arith, offset-fits _ _ _ _ _ (k .check-record .ensures) (omega (arith, k .before .before .loop-test .taken)))
 
 returns : tie.Need-returns Inv-loop μ-loop
 unfolding refused

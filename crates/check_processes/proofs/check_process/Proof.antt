@@ -1,7 +1,7 @@
 use mathlib.Core.Path.{_∙_}
 use borrow.Author.Needs.{needs}
 use Rattle.rules.specs.Block.{processRecord}
-use Rattle.rules.specs.Refusals.{recordUnfit, processUnfit, processCheck}
+use Rattle.rules.specs.Refusals.{recordUnfit, processRecordCheck, processCheck}
 use Rattle.check_processes.proofs.check_process.Statement.{statement}
 use Rattle.check_processes.proofs.check_process.Tie as tie
 
@@ -21,7 +21,7 @@ check-record-requires : tie.Need-check-record-requires
 check-record-requires c κs = search needs
 
 returns : tie.Need-returns
-unfolding processCheck processUnfit recordUnfit processRecord
+unfolding processRecordCheck processCheck recordUnfit processRecord
 returns c =
     let n = c .before .before .before in
     let r = n .before .read-process-record .ensures in

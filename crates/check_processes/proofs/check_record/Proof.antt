@@ -1,5 +1,6 @@
 use mathlib.Core.Path.{_∙_}
 use borrow.Author.Needs.{needs}
+use Rattle.rules.specs.Refusals.{processRecordCheck}
 use Rattle.check_processes.proofs.check_record.Statement.{statement}
 use Rattle.check_processes.proofs.check_record.Tie as tie
 
@@ -10,6 +11,7 @@ process-check-requires : tie.Need-process-check-requires
 process-check-requires c κs = search needs
 
 returns : tie.Need-returns
+unfolding processRecordCheck
 returns c = c .process-check .ensures ∙ rw (c .before .record-unfit .ensures)
 
 pub check-record-spec : {M : Type 1} → statement M
