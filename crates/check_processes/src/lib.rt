@@ -24,7 +24,7 @@ fn sections_before(block: &[u8], n: u32) -> u64
     sum
 }
 
-// Refusal 6, for a process record.
+// Refusal 6, for a process record, number i of p: `before` is the sum of the section counts before it.
 fn record_unfit(process: Process, i: u32, p: u32, before: u64, s: u32) -> bool
     ensures { λ r. ⌜ r ≡ recordUnfit process i p before s ⌝ }
 {
@@ -55,7 +55,7 @@ fn process_check(given: bool, number: u32, i: u32) -> RecordCheck
     }
 }
 
-// The check for 6 of a process record, number i of p: `before` is the sum of the section counts before it.
+// The check for 6 of such a record.
 pub fn check_record(process: Process, i: u32, p: u32, before: u64, s: u32) -> RecordCheck
     ensures { λ r. ⌜ r ≡ processRecordCheck process i p before s ⌝ }
 {

@@ -10,7 +10,7 @@ use Rattle.rules.specs.Refusals.{Check, records, processCheck, sectionCheck, en
 use Rattle.checks.specs.declared.Scan.{Scan}
 use Rattle.checks.specs.declared.Scan.the-variants.{Processes, Sections, EntryPoints, Regions}
 
--- the counts are in 01's bounds
+-- no count is over 01's bound: what 4 leaves, as far as an offset needs it
 pub record Counted (b : List ℕ) : Type 0 where
   pub few-processes : processCount b ≤ 16
   pub few-sections : sectionCount b ≤ 64
