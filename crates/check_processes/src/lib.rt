@@ -46,7 +46,7 @@ fn record_unfit(process: Process, i: u32, p: u32, before: u64, s: u32) -> bool
 }
 
 // The check of process record i: the number of a refusal, if it is given, and where the record is.
-fn process_check(given: bool, number: u32, i: u32) -> RecordCheck
+fn process_result(given: bool, number: u32, i: u32) -> RecordCheck
     ensures { λ r. ⌜ r ≡ recordCheck (choose given number 0) (processAt (i + 1)) ⌝ }
 {
     RecordCheck {
@@ -59,7 +59,7 @@ fn process_check(given: bool, number: u32, i: u32) -> RecordCheck
 pub fn check_record(process: Process, i: u32, p: u32, before: u64, s: u32) -> RecordCheck
     ensures { λ r. ⌜ r ≡ processRecordCheck process i p before s ⌝ }
 {
-    process_check(record_unfit(process, i, p, before, s), 6, i)
+    process_result(record_unfit(process, i, p, before, s), 6, i)
 }
 
 // The check for 6 of process record i of a block.
@@ -111,5 +111,5 @@ fn entry_point_outside(block: &[u8], i: u32) -> bool
 pub fn check_entry_point(block: &[u8], i: u32) -> RecordCheck
     ensures { λ r. ⌜ r ≡ entryPointCheck (now (block .entry)) i ⌝ }
 {
-    process_check(entry_point_outside(block, i), 10, i)
+    process_result(entry_point_outside(block, i), 10, i)
 }

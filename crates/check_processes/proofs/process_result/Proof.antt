@@ -1,6 +1,6 @@
 use borrow.Author.Needs.{needs}
-use Rattle.check_processes.proofs.process_check.Statement.{statement}
-use Rattle.check_processes.proofs.process_check.Tie as tie
+use Rattle.check_processes.proofs.process_result.Statement.{statement}
+use Rattle.check_processes.proofs.process_result.Tie as tie
 
 flag-requires : tie.Need-flag-requires
 flag-requires c κs = search needs
@@ -11,5 +11,5 @@ process-at-requires c κs = search needs
 returns : tie.Need-returns
 returns c = rw (c .process-at .ensures .0, c .before .flag .ensures .0)
 
-pub process-check-spec : {M : Type 1} → statement M
-process-check-spec = tie.close (tie.spec flag-requires process-at-requires returns)
+pub process-result-spec : {M : Type 1} → statement M
+process-result-spec = tie.close (tie.spec flag-requires process-at-requires returns)
