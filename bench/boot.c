@@ -10,8 +10,10 @@
  *
  * Ends with 1 where the large board takes the proved loader over LIMIT times
  * as long as plain Rust, and with 2 where two loaders differ in an answer or
- * in a byte of RAM: after any timed load, or for any block that the small
- * board's becomes when one of its bytes is changed.
+ * in a byte of RAM: after any timed load; for any block that the small board's
+ * becomes when one of its bytes is changed, or that of the users from flash
+ * when one of its bits is; and for any image of theirs in which a zero is
+ * changed or that ends somewhat earlier.
  */
 #define _POSIX_C_SOURCE 200809L
 #include "board.h"
@@ -69,13 +71,6 @@ static void fail(const char *board, const char *what)
 
 /* ---------------------------------------------- the pages of a load */
 
-static uint32_t word_at(uint32_t at)
-{
-    const uint8_t *b = block.bytes + at;
-
-    return b[0] | (uint32_t)b[1] << 8 | (uint32_t)b[2] << 16 | (uint32_t)b[3] << 24;
-}
-
 /* A stretch below all others; the lowest is made longer where the two touch. */
 static void list_stretch(uint32_t from, uint32_t to)
 {
@@ -100,8 +95,9 @@ static void list_page(uint32_t at, uint32_t from, uint32_t count)
 static void list_section(uint32_t n)
 {
     const uint32_t record = block.sections_at + 16 * n;
-    const uint32_t address = word_at(record), size = word_at(record + 4), from = word_at(record + 8);
-    const int copied = (word_at(record + 12) & NOCOPY) == 0;
+    const uint32_t address = block_word(&block, record), from = block_word(&block, record + 8);
+    const uint32_t size = block.straight[n] ? 0 : block_word(&block, record + 4);
+    const int copied = (block_word(&block, record + 12) & NOCOPY) == 0;
     uint32_t done = 0;
 
     while (done < size) {
@@ -117,7 +113,7 @@ static void list_section(uint32_t n)
  * records, and come last. */
 static void list_pages(uint32_t taken)
 {
-    const uint32_t kernel = word_at(32 + 8);
+    const uint32_t kernel = block_word(&block, 32 + 8);
 
     page_count = stretch_count = 0;
     for (uint32_t n = kernel; n < block.sections; n++)
@@ -154,14 +150,16 @@ static void run(int which)
 
     switch (which) {
     case PROVED:
-        rigpollen_answer(block.bytes, block.length, flash, block.copied, ram, ram_bytes, RAM_START, answer,
-                         RIGPOLLEN_ANSWER_WORDS);
+        rigpollen_answer(block.bytes, block.length, flash, block.flash_length, FLASH_START, ram, ram_bytes,
+                         RAM_START, answer, RIGPOLLEN_ANSWER_WORDS);
         break;
     case PLAIN:
-        plain_load(block.bytes, block.length, flash, block.copied, ram, ram_bytes, RAM_START, answer);
+        plain_load(block.bytes, block.length, flash, block.flash_length, FLASH_START, ram, ram_bytes,
+                   RAM_START, answer);
         break;
     case FORMS:
-        plain_forms_load(block.bytes, block.length, flash, block.copied, ram, ram_bytes, RAM_START, answer);
+        plain_forms_load(block.bytes, block.length, flash, block.flash_length, FLASH_START, ram, ram_bytes,
+                         RAM_START, answer);
         break;
     case FLOOR:
         for (uint32_t i = 0; i < page_count; i++) {
@@ -170,8 +168,8 @@ static void run(int which)
         }
         break;
     case CHECKS:
-        rigpollen_check(block.bytes, block.length, flash, block.copied, ram_bytes, RAM_START, words,
-                        RIGPOLLEN_ANSWER_WORDS);
+        rigpollen_check(block.bytes, block.length, flash, block.flash_length, FLASH_START, ram_bytes, RAM_START,
+                        words, RIGPOLLEN_ANSWER_WORDS);
         break;
     case SET:
         for (uint32_t i = 0; i < stretch_count; i++)
@@ -196,7 +194,7 @@ static void touch(const volatile uint8_t *bytes, uint64_t count)
 static void prepare(void)
 {
     touch(loaded, ram_bytes);
-    touch(flash, block.copied);
+    touch(flash, block.flash_length);
     memset(ram, DIRT, ram_bytes);
 }
 
@@ -245,7 +243,7 @@ static int compare(const void *a, const void *b)
 static void make_board(int board)
 {
     make_block(&block, &boards[board].board);
-    make_flash(flash, block.copied);
+    make_flash(flash, &block);
     ram_bytes = (uint64_t)boards[board].ram_pages * PAGE;
 }
 
@@ -268,6 +266,17 @@ static void measure(int board, int turns)
     }
 }
 
+/* Loads once by each loader. */
+static void load_all(const char *board)
+{
+    load_proved();
+    for (int which = PLAIN; which < LOADERS; which++) {
+        prepare();
+        run(which);
+        see_same(board, which);
+    }
+}
+
 /* Every block that differs from the small board's in one byte. */
 static void try_changed_blocks(void)
 {
@@ -275,14 +284,32 @@ static void try_changed_blocks(void)
     for (uint32_t at = 0; at < block.length; at++)
         for (int change = 1; change < 256; change++) {
             block.bytes[at] ^= (uint8_t)change;
-            load_proved();
-            for (int which = PLAIN; which < LOADERS; which++) {
-                prepare();
-                run(which);
-                see_same("small board with a byte changed", which);
-            }
+            load_all("small board with a byte changed");
             block.bytes[at] ^= (uint8_t)change;
         }
+}
+
+/* Every block that differs from that of the users from flash in one bit; every
+ * image that has a 1 for a zero; and images of up to 100 bytes less. */
+static void try_changed_flash_users(void)
+{
+    make_board(FLASH_USERS);
+    for (uint32_t at = 0; at < block.length; at++)
+        for (int change = 1; change < 256; change *= 2) {
+            block.bytes[at] ^= (uint8_t)change;
+            load_all("users from flash with a bit changed");
+            block.bytes[at] ^= (uint8_t)change;
+        }
+    for (uint32_t at = 0; at < block.flash_length; at++)
+        if (flash[at] == 0) {
+            flash[at] = 1;
+            load_all("users from flash with a byte of flash changed");
+            flash[at] = 0;
+        }
+    for (int less = 0; less < 100; less++) {
+        block.flash_length--;
+        load_all("users from flash with less flash");
+    }
 }
 
 /* ---------------------------------------------- the tables */
@@ -315,12 +342,7 @@ static int load_once(int board)
     if (board < 0 || board >= BOARDS)
         return 1;
     make_board(board);
-    load_proved();
-    for (int which = PLAIN; which < LOADERS; which++) {
-        prepare();
-        run(which);
-        see_same(boards[board].name, which);
-    }
+    load_all(boards[board].name);
     printf("%s\n", boards[board].name);
     return 0;
 }
@@ -332,6 +354,7 @@ static int compare_all(int turns, const char *limit)
     if (turns < 1 || turns > TURNS_MAX)
         return 2;
     try_changed_blocks();
+    try_changed_flash_users();
     for (int i = 0; i < BOARDS; i++)
         measure(i, i == LARGE_BOARD ? turns : OTHERS * turns);
     tell_ratios();

@@ -6,7 +6,7 @@ mod plain_forms;
 use plain::Answer;
 use std::slice::{from_raw_parts, from_raw_parts_mut};
 
-type Load = fn(&[u8], &[u8], &mut [u8], u32) -> Answer;
+type Load = fn(&[u8], &[u8], u32, &mut [u8], u32) -> Answer;
 
 macro_rules! entry {
     ($name:ident, $load:expr) => {
@@ -18,6 +18,7 @@ macro_rules! entry {
             block_length: u64,
             flash: *const u8,
             flash_length: u64,
+            flash_start: u32,
             ram: *mut u8,
             ram_length: u64,
             ram_start: u32,
@@ -27,6 +28,7 @@ macro_rules! entry {
             *answer = load(
                 from_raw_parts(block, block_length as usize),
                 from_raw_parts(flash, flash_length as usize),
+                flash_start,
                 from_raw_parts_mut(ram, ram_length as usize),
                 ram_start,
             );

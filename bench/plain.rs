@@ -26,6 +26,10 @@ pub const WRITE: u32 = 4 | 128;
 const EXECUTE: u32 = 8;
 const USER: u32 = 16;
 
+/// From a page's entry to that of the page above it, and below it.
+pub const UP: u32 = 1 << 10;
+pub const DOWN: u32 = UP.wrapping_neg();
+
 #[repr(C)]
 #[derive(Default)]
 pub struct Answer {
@@ -43,6 +47,10 @@ fn word(bytes: &[u8], at: usize) -> u32 {
 
 fn put_word(bytes: &mut [u8], at: usize, word: u32) {
     bytes[at..at + 4].copy_from_slice(&word.to_le_bytes());
+}
+
+fn is_zero(bytes: &[u8]) -> bool {
+    bytes.iter().fold(0, |all, byte| all | byte) == 0
 }
 
 #[derive(Clone, Copy)]
@@ -121,6 +129,18 @@ impl Section {
             || self.flags & NOCOPY != 0 && self.flash_offset != 0
     }
 
+    /// Whether its flash pages, those of the image that hold a byte of it, can be mapped as they are.
+    fn is_whole_in_flash(self, flash: &[u8]) -> bool {
+        let from = self.flash_offset as usize;
+        let end = from + self.size as usize;
+        let first = from / PAGE * PAGE;
+        let past = end.div_ceil(PAGE) * PAGE;
+        from - first == self.address as usize % PAGE
+            && past <= flash.len()
+            && is_zero(&flash[first..from])
+            && is_zero(&flash[end..past])
+    }
+
     fn holds_code_at(self, address: u32) -> bool {
         self.flags & EXECUTABLE != 0 && self.address <= address && (address as u64) < self.end()
     }
@@ -190,15 +210,11 @@ impl<'a> Records<'a> {
     }
 
     /// The sections of a process that drew no 6.
-    pub fn sections(self, process: Process) -> impl Iterator<Item = Section> + 'a {
+    fn sections(self, process: Process) -> impl Iterator<Item = Section> + 'a {
         let from = 16 * process.first as usize;
         self.sections[from..from + 16 * process.sections as usize]
             .chunks_exact(16)
             .map(Section::read)
-    }
-
-    pub fn section_pages(self, process: Process) -> usize {
-        self.sections(process).map(Section::pages).sum()
     }
 
     fn refuse_process(self, number: u32, i: usize) -> Refusal {
@@ -219,7 +235,8 @@ impl<'a> Records<'a> {
         let s = self.sections.len() as u64 / 16;
         let mut sum = 0u64;
         for (i, process) in self.processes().enumerate() {
-            if process.kind != 0 || process.sections == 0 || process.first as u64 != sum {
+            let kinds = if i == 0 { 0 } else { 1 };
+            if process.kind > kinds || process.sections == 0 || process.first as u64 != sum {
                 return Err(self.refuse_process(6, i));
             }
             sum += process.sections as u64;
@@ -275,7 +292,7 @@ impl<'a> Records<'a> {
     }
 
     /// Refusal 11. Returns the I/O pages.
-    fn check_regions(self, ram_start: u64, ram_end: u64) -> Result<u64, Refusal> {
+    fn check_regions(self, ram: Addresses, flash: Addresses) -> Result<u64, Refusal> {
         let (mut previous_end, mut total) = (0u64, 0u64);
         for (i, record) in self.regions.chunks_exact(8).enumerate() {
             let start = word(record, 0) as u64;
@@ -286,7 +303,8 @@ impl<'a> Records<'a> {
                 || pages == 0
                 || end > SPACE
                 || start < previous_end
-                || start.max(ram_start) < end.min(ram_end)
+                || ram.meet(Addresses { start, end })
+                || flash.meet(Addresses { start, end })
                 || total > 4096
             {
                 return Err(self.refuse_region(11, i));
@@ -296,13 +314,23 @@ impl<'a> Records<'a> {
         Ok(total)
     }
 
-    /// The section pages of all processes, and their tables.
-    fn count_pages(self) -> usize {
-        let mut pages = 2;
+    /// The section pages of all processes in RAM, and their tables; and the sections that are used straight from flash, bit n for
+    /// section record n.
+    fn count_pages(self, flash: &[u8]) -> (usize, u64) {
+        let (mut pages, mut straight) = (2, 0);
+        let mut n = 0;
         for (i, process) in self.processes().enumerate() {
             let (mut tables, mut above) = (1, 0);
             for section in self.sections(process) {
-                pages += section.pages();
+                if process.kind == 1
+                    && section.flags & (NOCOPY | WRITABLE) == 0
+                    && section.is_whole_in_flash(flash)
+                {
+                    straight |= 1 << n;
+                } else {
+                    pages += section.pages();
+                }
+                n += 1;
                 let last = section.last_page() / ENTRIES;
                 tables += last + 1 - above.max(section.first_page() / ENTRIES);
                 above = last + 1;
@@ -311,18 +339,62 @@ impl<'a> Records<'a> {
                 pages += (tables + (above <= STACK_SLOT) as u32) as usize;
             }
         }
-        pages
+        (pages, straight)
     }
 }
 
-/// What a block that boots asks for.
+/// The addresses from `start` up to `end`.
+#[derive(Clone, Copy)]
+struct Addresses {
+    start: u64,
+    end: u64,
+}
+
+impl Addresses {
+    fn new(start: u32, length: usize) -> Addresses {
+        Addresses {
+            start: start as u64,
+            end: start as u64 + length as u64,
+        }
+    }
+
+    fn meet(self, other: Addresses) -> bool {
+        self.start.max(other.start) < self.end.min(other.end)
+    }
+}
+
+/// What a block that boots asks for. `straight` has bit n where the section of record n is used straight from flash, and `flash_page` is
+/// flash's first physical page.
 pub struct Plan<'a> {
     pub records: Records<'a>,
     pub needed: usize,
     pub tracker: usize,
+    straight: u64,
+    flash_page: u32,
 }
 
 impl<'a> Plan<'a> {
+    /// The sections of a process, each with its first physical page in flash where it is used straight from there.
+    pub fn sections(&self, process: Process) -> impl Iterator<Item = (Section, Option<u32>)> + 'a {
+        let (mut straight, flash_page) = (self.straight >> process.first, self.flash_page);
+        self.records.sections(process).map(move |section| {
+            let page = flash_page + section.flash_offset / PAGE as u32;
+            let in_flash = (straight & 1 != 0).then_some(page);
+            straight >>= 1;
+            (section, in_flash)
+        })
+    }
+
+    /// The sections of a process that are in RAM.
+    pub fn sections_in_ram(&self, process: Process) -> impl Iterator<Item = Section> + 'a {
+        self.sections(process)
+            .filter_map(|(section, in_flash)| in_flash.is_none().then_some(section))
+    }
+
+    fn pages_in_ram(&self, process: Process) -> usize {
+        self.sections_in_ram(process).map(Section::pages).sum()
+    }
+
     pub fn answer(&self, pages: usize) -> Answer {
         Answer {
             number: 0,
@@ -337,9 +409,7 @@ impl<'a> Plan<'a> {
     /// The kernel's section pages.
     pub fn kernel_pages(&self) -> usize {
         let kernel = self.records.processes().take(1);
-        kernel
-            .map(|process| self.records.section_pages(process))
-            .sum()
+        kernel.map(|process| self.pages_in_ram(process)).sum()
     }
 
     /// The owners of all RAM pages, in a page that is zero.
@@ -347,28 +417,40 @@ impl<'a> Plan<'a> {
         owners[pages - self.needed..pages].fill(1);
         let mut end = pages - TOP_PAGES;
         for (i, process) in self.records.processes().enumerate().skip(1) {
-            let count = self.records.section_pages(process);
+            let count = self.pages_in_ram(process);
             owners[end - count..end].fill(i as u8 + 1);
             end -= count;
         }
     }
 }
 
-/// Refusals 1 to 12.
-pub fn check<'a>(block: &'a [u8], flash: u64, ram: usize, start: u32) -> Result<Plan<'a>, Refusal> {
-    let ram_end = start as u64 + ram as u64;
-    if ram % PAGE != 0 || ram / PAGE > 4096 || start % 4096 != 0 || ram_end > SPACE {
+/// All refusals.
+pub fn check<'a>(
+    block: &'a [u8],
+    flash: &[u8],
+    flash_start: u32,
+    ram: usize,
+    start: u32,
+) -> Result<Plan<'a>, Refusal> {
+    let ram_addresses = Addresses::new(start, ram);
+    let flash_addresses = Addresses::new(flash_start, flash.len());
+    if ram % PAGE != 0 || ram / PAGE > 4096 || start % 4096 != 0 || ram_addresses.end > SPACE {
         return Err(Refusal(1, 0, 0));
+    }
+    if flash_start % 4096 != 0 || flash_addresses.end > SPACE || flash_addresses.meet(ram_addresses)
+    {
+        return Err(Refusal(13, 0, 0));
     }
     let records = Records::read(block)?;
     records.check_processes()?;
-    records.check_sections(flash)?;
+    records.check_sections(flash.len() as u64)?;
     records.check_entry_points()?;
-    let io_pages = records.check_regions(start as u64, ram_end)? as usize;
+    let io_pages = records.check_regions(ram_addresses, flash_addresses)? as usize;
     let pages = ram / PAGE;
     let tracker = (pages + io_pages + PAGE - 1) / PAGE;
+    let (counted, straight) = records.count_pages(flash);
     // The process list and the copy of the block have a page each.
-    let needed = TOP_PAGES + records.count_pages() + tracker + 2;
+    let needed = TOP_PAGES + counted + tracker + 2;
     if needed > pages {
         return Err(Refusal(12, 0, 0));
     }
@@ -376,6 +458,8 @@ pub fn check<'a>(block: &'a [u8], flash: u64, ram: usize, start: u32) -> Result<
         records,
         needed,
         tracker,
+        straight,
+        flash_page: flash_start / PAGE as u32,
     })
 }
 
@@ -396,11 +480,11 @@ fn copy_section(pages: &mut [u8], section: Section, flash: &[u8]) {
     }
 }
 
-/// All sections, below page `top`. Returns the page below which they end.
-fn load_sections(records: Records, flash: &[u8], ram: &mut [u8], mut top: usize) -> usize {
-    let users = records.processes().skip(1);
-    for process in users.chain(records.processes().take(1)) {
-        for section in records.sections(process) {
+/// All sections in RAM, below page `top`. Returns the page below which they end.
+fn load_sections(plan: &Plan, flash: &[u8], ram: &mut [u8], mut top: usize) -> usize {
+    let users = plan.records.processes().skip(1);
+    for process in users.chain(plan.records.processes().take(1)) {
+        for section in plan.sections_in_ram(process) {
             let count = section.pages();
             let pages = &mut ram[(top - count) * PAGE..top * PAGE];
             if section.flags & NOCOPY != 0 {
@@ -414,12 +498,11 @@ fn load_sections(records: Records, flash: &[u8], ram: &mut [u8], mut top: usize)
     top
 }
 
-/// Entries for `count` pages from index `at` of a table on: the first for physical page `page`, each next one for the page below.
-fn map(table: &mut [u8], at: usize, count: usize, page: u32, flags: u32) {
-    let mut entry = page << 10 | flags;
+/// Entries for `count` pages from index `at` of a table on: the first is `entry`, each next one for the page above or below, by `step`.
+fn map(table: &mut [u8], at: usize, count: usize, mut entry: u32, step: u32) {
     for bytes in table[4 * at..4 * (at + count)].chunks_exact_mut(4) {
         bytes.copy_from_slice(&entry.to_le_bytes());
-        entry = entry.wrapping_sub(ENTRIES);
+        entry = entry.wrapping_add(step);
     }
 }
 
@@ -458,8 +541,8 @@ impl<'a> Tables<'a> {
         put_word(self.ram, self.root * PAGE + 4 * slot, leaf << 10 | POINTER);
     }
 
-    /// Maps a section whose first page is physical page `page`.
-    fn map_section(&mut self, section: Section, mut page: u32, flags: u32) {
+    /// Maps a section from its first page's entry on.
+    fn map_section(&mut self, section: Section, mut entry: u32, step: u32) {
         let (mut from, end) = (section.first_page(), section.last_page() + 1);
         while from < end {
             let slot = from / ENTRIES;
@@ -469,11 +552,28 @@ impl<'a> Tables<'a> {
                 self.leaf(slot),
                 (from % ENTRIES) as usize,
                 count as usize,
-                page,
-                flags,
+                entry,
+                step,
             );
-            page = page.wrapping_sub(count);
+            entry = entry.wrapping_add(step.wrapping_mul(count));
             from = to;
+        }
+    }
+
+    /// Maps the block's copy, the tracker and the process list. The tracker lies below page `tracker`, the other two below it.
+    fn map_shared(&mut self, tracker: usize, tracker_pages: usize) {
+        let first = self.base + tracker as u32 - 1;
+        let list = first - tracker_pages as u32;
+        let leaf = self.leaf(KERNEL_SLOT as u32);
+        map(leaf, 0x300, 1, (list - 1) << 10 | READ, DOWN);
+        map(leaf, 0x340, tracker_pages, first << 10 | READ | WRITE, DOWN);
+        map(leaf, 0x380, 1, list << 10 | READ, DOWN);
+    }
+
+    fn reserve_stack(&mut self) {
+        let leaf = self.leaf(STACK_SLOT);
+        for at in 1020..1024 {
+            put_word(leaf, 4 * at, RESERVED);
         }
     }
 }
@@ -503,38 +603,35 @@ fn load_tables(
     for (i, process) in plan.records.processes().enumerate() {
         let mut tables = Tables::new(ram, base, top);
         list_process(list, i + 1, process.entry_point, base + tables.root as u32);
-        for section in plan.records.sections(process) {
+        for (section, in_flash) in plan.sections(process) {
             let flags = section.page_flags(i > 0);
-            tables.map_section(section, base + section_top as u32 - 1, flags);
-            section_top -= section.pages();
+            if let Some(page) = in_flash {
+                tables.map_section(section, page << 10 | flags, UP);
+            } else {
+                let page = base + section_top as u32 - 1;
+                tables.map_section(section, page << 10 | flags, DOWN);
+                section_top -= section.pages();
+            }
         }
         if i == 0 {
-            let first = base + tracker as u32 - 1;
-            let after = first - plan.tracker as u32;
-            let leaf = tables.leaf(KERNEL_SLOT as u32);
-            map(leaf, 0x300, 1, after - 1, READ);
-            map(leaf, 0x340, plan.tracker, first, READ | WRITE);
-            map(leaf, 0x380, 1, after, READ);
+            tables.map_shared(tracker, plan.tracker);
             section_top = pages - TOP_PAGES;
         } else {
-            let leaf = tables.leaf(STACK_SLOT);
-            for at in 1020..1024 {
-                put_word(leaf, 4 * at, RESERVED);
-            }
+            tables.reserve_stack();
             tables.point(KERNEL_SLOT, kernel_leaf);
         }
         top = tables.top;
     }
 }
 
-/// Loads the block's programs from flash into RAM that starts at physical address `start`, or refuses and leaves RAM as it came.
-pub fn load(block: &[u8], flash: &[u8], ram: &mut [u8], start: u32) -> Answer {
-    let plan = match check(block, flash.len() as u64, ram.len(), start) {
+/// Loads the block's programs from flash into RAM, which start at these physical addresses, or refuses and leaves RAM as it came.
+pub fn load(block: &[u8], flash: &[u8], flash_start: u32, ram: &mut [u8], start: u32) -> Answer {
+    let plan = match check(block, flash, flash_start, ram.len(), start) {
         Ok(plan) => plan,
         Err(refusal) => return refusal.answer(),
     };
     let pages = ram.len() / PAGE;
-    let tracker = load_sections(plan.records, flash, ram, pages - TOP_PAGES);
+    let tracker = load_sections(&plan, flash, ram, pages - TOP_PAGES);
     let list = tracker - plan.tracker - 1;
     // All pages that are zero but for some words of theirs.
     let (tables, above) = ram.split_at_mut((list - 1) * PAGE);

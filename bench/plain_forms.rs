@@ -45,16 +45,16 @@ fn load_page(page: &mut Page, section: Section, flash: &[u8], i: usize) {
     }
 }
 
-/// All sections.
+/// All sections in RAM.
 fn load_sections(
-    records: Records,
+    plan: &Plan,
     flash: &[u8],
     ram: &mut [u8],
     mut next: PageAllocator,
 ) -> PageAllocator {
-    let users = records.processes().skip(1);
-    for process in users.chain(records.processes().take(1)) {
-        for section in records.sections(process) {
+    let users = plan.records.processes().skip(1);
+    for process in users.chain(plan.records.processes().take(1)) {
+        for section in plan.sections_in_ram(process) {
             for i in 0..section.pages() {
                 let (k, rest) = next.allocate();
                 load_page(lend(ram, k), section, flash, i);
@@ -86,12 +86,11 @@ fn store(page: &mut Page, entries: &Table) {
     }
 }
 
-/// Entries for `count` pages from index `at` of a table on: the first for physical page `page`, each next one for the page below.
-fn map(entries: &mut Table, at: usize, count: usize, page: u32, flags: u32) {
-    let mut entry = page << 10 | flags;
+/// Entries for `count` pages from index `at` of a table on: the first is `entry`, each next one for the page above or below, by `step`.
+fn map(entries: &mut Table, at: usize, count: usize, mut entry: u32, step: u32) {
     for to in &mut entries[at..at + count] {
         *to = entry;
-        entry = entry.wrapping_sub(ENTRIES);
+        entry = entry.wrapping_add(step);
     }
 }
 
@@ -126,8 +125,8 @@ impl<'a> Tables<'a> {
         }
     }
 
-    /// Maps a section whose first page is physical page `page`.
-    fn map_section(&mut self, section: Section, mut page: u32, flags: u32) {
+    /// Maps a section from its first page's entry on.
+    fn map_section(&mut self, section: Section, mut entry: u32, step: u32) {
         let (mut from, end) = (section.first_page(), section.last_page() + 1);
         while from < end {
             let slot = from / ENTRIES;
@@ -137,10 +136,10 @@ impl<'a> Tables<'a> {
                 self.leaf(slot),
                 (from % ENTRIES) as usize,
                 count as usize,
-                page,
-                flags,
+                entry,
+                step,
             );
-            page = page.wrapping_sub(count);
+            entry = entry.wrapping_add(step.wrapping_mul(count));
             from = to;
         }
     }
@@ -175,22 +174,22 @@ fn load_tables(
             leaf: [0; ENTRIES as usize],
             open: None,
         };
-        for section in plan.records.sections(process) {
+        for (section, in_flash) in plan.sections(process) {
             let flags = section.page_flags(i > 0);
-            tables.map_section(section, base + section_top as u32 - 1, flags);
-            section_top -= section.pages();
+            if let Some(page) = in_flash {
+                tables.map_section(section, page << 10 | flags, UP);
+            } else {
+                let page = base + section_top as u32 - 1;
+                tables.map_section(section, page << 10 | flags, DOWN);
+                section_top -= section.pages();
+            }
         }
         if i == 0 {
             let leaf = tables.leaf(KERNEL_SLOT as u32);
-            map(leaf, 0x300, 1, base + list as u32 - 1, READ);
-            map(
-                leaf,
-                0x340,
-                plan.tracker,
-                base + tracker as u32,
-                READ | WRITE,
-            );
-            map(leaf, 0x380, 1, base + list as u32, READ);
+            let (list, first) = (base + list as u32, base + tracker as u32);
+            map(leaf, 0x300, 1, (list - 1) << 10 | READ, DOWN);
+            map(leaf, 0x340, plan.tracker, first << 10 | READ | WRITE, DOWN);
+            map(leaf, 0x380, 1, list << 10 | READ, DOWN);
             section_top = pages - TOP_PAGES;
         } else {
             tables.leaf(STACK_SLOT)[1020..].fill(RESERVED);
@@ -202,9 +201,9 @@ fn load_tables(
     }
 }
 
-/// Loads the block's programs from flash into RAM that starts at physical address `start`, or refuses and leaves RAM as it came.
-pub fn load(block: &[u8], flash: &[u8], ram: &mut [u8], start: u32) -> Answer {
-    let plan = match check(block, flash.len() as u64, ram.len(), start) {
+/// Loads the block's programs from flash into RAM, which start at these physical addresses, or refuses and leaves RAM as it came.
+pub fn load(block: &[u8], flash: &[u8], flash_start: u32, ram: &mut [u8], start: u32) -> Answer {
+    let plan = match check(block, flash, flash_start, ram.len(), start) {
         Ok(plan) => plan,
         Err(refusal) => return refusal.answer(),
     };
@@ -212,7 +211,7 @@ pub fn load(block: &[u8], flash: &[u8], ram: &mut [u8], start: u32) -> Answer {
     let below_top = PageAllocator {
         left: pages - TOP_PAGES,
     };
-    let after_sections = load_sections(plan.records, flash, ram, below_top);
+    let after_sections = load_sections(&plan, flash, ram, below_top);
     let (list, after_list) = load_tracker(&plan, ram, after_sections).allocate();
     let (copy, after_copy) = after_list.allocate();
     let page = lend(ram, copy);

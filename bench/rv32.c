@@ -27,13 +27,13 @@ static uint32_t measure(int i)
     uint32_t answer[RIGPOLLEN_ANSWER_WORDS], before, load, memory, stack;
 
     make_block(&block, &boards[i].board);
-    make_flash(flash, block.copied);
+    make_flash(flash, &block);
     memset(ram, 0xA5, ram_bytes);
 
     stack_mark();
     before = instructions();
-    rigpollen_answer(block.bytes, block.length, flash, block.copied, ram, ram_bytes,
-                     (uint32_t)ram, answer, RIGPOLLEN_ANSWER_WORDS);
+    rigpollen_answer(block.bytes, block.length, flash, block.flash_length, FLASH_START, ram,
+                     ram_bytes, (uint32_t)ram, answer, RIGPOLLEN_ANSWER_WORDS);
     load = instructions() - before;
     stack = stack_used();
     if (answer[RIGPOLLEN_ANSWER_NUMBER] != RIGPOLLEN_LOADED) {

@@ -5,23 +5,27 @@
 //!
 //! The number of cases, and the damage (0; rv32/cases.c). Then of each case:
 //!
-//! - its number in the run; RAM's start and length in bytes; the block's and flash's length
+//! - its number in the run; RAM's start and length in bytes; the block's and flash's length; flash's start
 //! - the answer's six words
 //! - how many calls for a process, and of each the process, the number returned, how many words it puts, and three words
-//! - walks by way of the loaded tables: how many, and of each the root's page number, the address, what is returned, and two words
+//! - walks by way of the loaded tables: how many, and of each the root's page number and the address; what `rigpollen_walk` returns, and
+//!   two words; what `rigpollen_page` returns, whose bytes it puts (0 none, 1 RAM's, 2 flash's), and where they are, counted from the
+//!   area's first byte
 //! - the bytes of the block and of flash
 //! - of each page of RAM (the last may be cut) what it is after the load: 0 as before, 1 zero, 2 other bytes, and then these
-//! - tables that no loader writes: where they start, their length, their bytes, and walks on them
+//! - tables that no loader writes, in RAM: where it starts, its length, its bytes; flash beside it, in the same way; and walks on them
 //! - how many calls of the block writer, and of each the words of its three lists and the bytes of its buffer, the answer's four words,
 //!   the lists, and what is written
 
 use crate::cases::{self, Case};
 use crate::check;
 use crate::lists;
+use crate::memory::Memory;
+use crate::met::{Kind, Met};
 use crate::reader;
 use crate::rng::Rng;
 use crate::rules::{self, Fault, Outcome, PAGE};
-use crate::walker::{self, Found};
+use crate::walker::{self, Found, Part};
 use crate::writer::{self, Job};
 use std::fs::File;
 use std::io::{BufWriter, Write};
@@ -61,16 +65,40 @@ impl Out {
         }
     }
 
-    fn walk(&mut self, ram: &[u8], start: u32, root: u32, address: u32, name: &'static str) {
-        let (number, words) = match walker::walk(ram, start, root, address) {
+    /// One walk; `names` are those of what `rigpollen_walk` and `rigpollen_page` give.
+    fn walk(&mut self, read: Reading, address: u32, names: [&'static str; 2]) {
+        let Reading { ram, flash, root } = read;
+        let found = walker::walk(ram, root, address);
+        let (number, words) = match found {
             Found::Absent => (0, [0, 0]),
             Found::Reserved => (1, [0, 0]),
             Found::Page { rights, number } => (2, [rights, number]),
         };
         self.words(&[root, address]);
-        self.mark(name);
+        self.mark(names[0]);
         self.words(&[number, words[0], words[1]]);
+        let (area, at) = match walker::part(ram, flash, found, Fault::None) {
+            Part::Empty => (0, 0),
+            Part::Ram(at) => (1, at),
+            Part::Flash(at) => (2, at),
+        };
+        self.mark(names[1]);
+        let length = if area == 0 { 0 } else { PAGE as u32 };
+        self.words(&[length, area, at as u32]);
     }
+
+    fn memory(&mut self, memory: Memory) {
+        self.words(&[memory.start, memory.bytes.len() as u32]);
+        self.padded(memory.bytes);
+    }
+}
+
+/// What a walk is on.
+#[derive(Clone, Copy)]
+struct Reading<'a> {
+    ram: Memory<'a>,
+    flash: Memory<'a>,
+    root: u32,
 }
 
 fn dirt(number: u32, k: u32) -> u32 {
@@ -118,8 +146,15 @@ fn write_walks(out: &mut Out, case: &Case, want: &Outcome, rng: &mut Rng) {
             let near = rng.below(3) as u32;
             let page = rng.pick(&seen).wrapping_add(near).wrapping_sub(1);
             let address = page << 12 | rng.below(PAGE) as u32;
-            let root = boot.plan.root(process);
-            out.walk(&want.image, case.start, root, address, "walk");
+            let read = Reading {
+                ram: Memory {
+                    bytes: &want.image,
+                    start: case.start,
+                },
+                flash: case.memory_of_flash(),
+                root: boot.plan.root(process),
+            };
+            out.walk(read, address, ["walk", "page"]);
         }
     }
 }
@@ -140,13 +175,17 @@ fn write_ram_after(out: &mut Out, case: &Case, want: &Outcome) {
 }
 
 fn write_odd_tables(out: &mut Out, rng: &mut Rng) {
-    let (ram, start) = reader::malformed_ram(rng);
-    out.words(&[start, ram.len() as u32]);
-    out.padded(&ram);
+    let lent = reader::malformed(rng);
+    let (ram, flash) = (lent.ram.memory(), lent.flash.memory());
+    out.memory(ram);
+    out.memory(flash);
     out.words(&[WALKS_OF_ODD_TABLES as u32]);
     for _ in 0..WALKS_OF_ODD_TABLES {
-        let root = reader::draw_root(rng, start, ram.len() as u64);
-        out.walk(&ram, start, root, rng.word(), "walk of odd tables");
+        let root = reader::draw_root(rng, &lent);
+        let address = reader::draw_address(rng, &lent, root);
+        let read = Reading { ram, flash, root };
+        let names = ["walk of odd tables", "page of odd tables"];
+        out.walk(read, address, names);
     }
 }
 
@@ -185,6 +224,7 @@ fn write_case(out: &mut Out, number: u64, case: &Case, want: &Outcome, rng: &mut
     let lengths = [&case.ram, &case.block, &case.flash].map(|area| area.len() as u32);
     out.words(&[number as u32, case.start]);
     out.words(&lengths);
+    out.words(&[case.flash_start]);
     out.mark("answer");
     out.words(&want.answer[..5]);
     out.mark("offset");
@@ -221,9 +261,11 @@ pub fn write(path: &str, seed: u64, count: u64) -> Result<(), String> {
     let mut out = Out::default();
     let mut numbers = check::Numbers::default();
     let mut writings = writer::Numbers::default();
+    let mut met = Met::default();
     out.words(&[count as u32, 0]);
     for (number, case) in drawn(seed, count) {
-        let want = rules::load(&case.block, &case.flash, &case.ram, case.start, Fault::None);
+        let (flash, ram) = (case.memory_of_flash(), case.memory_of_ram());
+        let want = rules::load(&case.block, flash, ram, Fault::None);
         let mut rng = Rng::new(seed, number, 2);
         write_case(&mut out, number, &case, &want, &mut rng);
         write_writings(&mut out, number, &case, &mut rng, &mut writings);
@@ -235,9 +277,11 @@ pub fn write(path: &str, seed: u64, count: u64) -> Result<(), String> {
         file.write_all(&out.bytes).map_err(failed)?;
         out.bytes.clear();
         numbers.count(&case, &want);
+        met.case(&case, &want);
     }
     file.flush().map_err(failed)?;
-    let missing = numbers.missing().or(writings.missing());
+    let cases_met = met.missing(0..Kind::ByLastByte as usize);
+    let missing = numbers.missing().or(writings.missing()).or(cases_met);
     if let Some(never) = missing.filter(|_| count >= 1000) {
         return Err(format!("{never} never came up in {count} cases"));
     }

@@ -2,8 +2,9 @@
 //! random blocks, each with a flash image and dirty RAM.
 
 use crate::draft::{self, Draft, ProcessRecord, RegionRecord, SectionRecord};
+use crate::memory::{Area, Memory};
 use crate::rng::Rng;
-use crate::rules::{self, Ram, EXECUTABLE, KERNEL, NOCOPY, PAGE, USER};
+use crate::rules::{self, Fault, EXECUTABLE, KERNEL, NOCOPY, PAGE, USER};
 use crate::small;
 
 pub struct Case {
@@ -11,15 +12,35 @@ pub struct Case {
     pub what: String,
     pub block: Vec<u8>,
     pub flash: Vec<u8>,
+    pub flash_start: u32,
     pub ram: Vec<u8>,
     pub start: u32,
+}
+
+impl Case {
+    pub fn memory_of_flash(&self) -> Memory<'_> {
+        Memory {
+            bytes: &self.flash,
+            start: self.flash_start,
+        }
+    }
+
+    pub fn memory_of_ram(&self) -> Memory<'_> {
+        Memory {
+            bytes: &self.ram,
+            start: self.start,
+        }
+    }
 }
 
 /// Case `number` of the run with this seed. The first are 01's P1 to P12.
 pub fn generate(seed: u64, number: u64) -> Case {
     let mut rng = Rng::new(seed, number, 0);
     let (what, draft) = match small::marked(number) {
-        Some(marked) => (marked.name.to_string(), marked.draft),
+        Some(mut marked) => {
+            rng.fill(&mut marked.draft.flash);
+            (marked.name.to_string(), marked.draft)
+        }
         None => match rng.below(100) {
             0..=39 => ("valid board".to_string(), draft::valid(&mut rng, 0)),
             40..=83 => damaged(&mut rng),
@@ -27,17 +48,16 @@ pub fn generate(seed: u64, number: u64) -> Case {
             _ => return random(&mut rng),
         },
     };
-    finish(&mut rng, what, draft.block(), &draft)
+    finish(&mut rng, what, draft.block(), draft)
 }
 
-fn finish(rng: &mut Rng, what: String, block: Vec<u8>, draft: &Draft) -> Case {
-    let flash = rng.bytes(draft.flash_len);
-    let ram = dirty_ram(rng, draft.ram_len);
+fn finish(rng: &mut Rng, what: String, block: Vec<u8>, draft: Draft) -> Case {
     Case {
         what,
         block,
-        flash,
-        ram,
+        ram: dirty_ram(rng, draft.ram_len),
+        flash: draft.flash,
+        flash_start: draft.flash_start,
         start: draft.start,
     }
 }
@@ -66,7 +86,12 @@ fn damaged(rng: &mut Rng) -> (String, Draft) {
     let count = if rng.chance(75) { 1 } else { rng.between(2, 3) };
     let mut what = "damaged at".to_string();
     for _ in 0..count {
-        let number = rng.between(1, 12);
+        // 11 and 13, which have the most causes, twice as often as the others.
+        let number = match rng.between(1, 15) {
+            14 => 11,
+            15 => 13,
+            number => number,
+        };
         what += &format!(" {number}");
         damage(rng, &mut draft, number);
     }
@@ -91,8 +116,18 @@ fn damage(rng: &mut Rng, draft: &mut Draft, number: u64) {
         8 => damage_section_place(rng, draft),
         9 => damage_flash(rng, draft),
         10 => damage_entry(rng, draft),
+        11 if rng.chance(50) => damage_region_by_flash(rng, draft),
         11 => damage_region(rng, draft),
-        _ => damage_ram_pages(rng, draft),
+        12 => damage_ram_pages(rng, draft),
+        _ => {
+            damage_flash_place(rng, draft);
+            // What is tried before 13, and what after.
+            match rng.below(8) {
+                0..=1 => damage_ram(rng, draft),
+                2..=3 => draft.length = Some(rng.pick(&[0, 31, 31, 32])),
+                _ => {}
+            }
+        }
     }
 }
 
@@ -227,8 +262,10 @@ fn damage_process(rng: &mut Rng, draft: &mut Draft) {
     let i = rng.index(last + 1);
     let next = (i + 1).min(last);
     let taken = draft.processes[i].count;
-    match rng.below(11) {
-        0 => draft.processes[i].kind = rng.pick(&[1, 2, 256, 1 << 31, u32::MAX]),
+    match rng.below(16) {
+        0 => draft.processes[i].kind = rng.pick(&[256, 257, 1 << 31, u32::MAX]),
+        11..=12 => draft.processes[0].kind = rng.pick(&[1, 1, 2]),
+        13..=15 => draft.processes[i].kind = rng.pick(&[1, 2, 2, 2, 3]),
         1 => draft.processes[i].count = 0,
         2 => {
             draft.processes[i].first =
@@ -351,18 +388,19 @@ fn damage_flash(rng: &mut Rng, draft: &mut Draft) {
         .filter(|&i| draft.sections[i].copied())
         .collect();
     if copied.is_empty() {
-        draft.flash_len = 0;
+        draft.flash.clear();
         return;
     }
+    let len = draft.flash_len();
     let section = &mut draft.sections[copied[rng.index(copied.len())]];
-    let end = u64::from(section.offset) + u64::from(section.size);
+    let end = section.offset_end();
     match rng.below(8) {
-        0..=1 => section.offset = draft.flash_len.saturating_sub(section.size.into()) as u32,
-        2..=3 => section.offset = draft.flash_len.saturating_sub(section.size.into()) as u32 + 1,
-        4 => draft.flash_len = end.min(draft.flash_len),
-        5 => draft.flash_len = (end - 1).min(draft.flash_len),
+        0..=1 => section.offset = len.saturating_sub(section.size.into()) as u32,
+        2..=3 => section.offset = len.saturating_sub(section.size.into()) as u32 + 1,
+        4 => draft.flash.truncate(end as usize),
+        5 => draft.flash.truncate(end as usize - 1),
         6 => section.offset = rng.pick(&[u32::MAX, section.size.wrapping_neg(), 1 << 31]),
-        _ => draft.flash_len = 0,
+        _ => draft.flash.clear(),
     }
 }
 
@@ -477,6 +515,75 @@ fn damage_region(rng: &mut Rng, draft: &mut Draft) {
     }
 }
 
+/// 11: regions at the edges of flash: touching it from below or above, on its first or its last page, around it; and an empty image in a
+/// region.
+fn damage_region_by_flash(rng: &mut Rng, draft: &mut Draft) {
+    let from = u64::from(draft.flash_start);
+    let pages = rng.between(1, 3);
+    if rng.chance(40) {
+        // A last page of which one byte or all but one is in the image.
+        let len = draft.flash.len().next_multiple_of(PAGE as usize);
+        draft.flash.resize(len + rng.pick(&[1, 4095]), 0);
+    }
+    let end = from + draft.flash_len().next_multiple_of(PAGE);
+    let start = match rng.below(10) {
+        0 => from.wrapping_sub(pages * PAGE),
+        1 => from.wrapping_sub((pages - 1) * PAGE),
+        2..=3 => end,
+        4..=6 => end - PAGE.min(end),
+        7..=8 => {
+            draft.empty_flash();
+            from.wrapping_sub(PAGE)
+        }
+        _ => from.wrapping_sub(PAGE),
+    };
+    let long = draft.flash_len().div_ceil(PAGE) + 2;
+    draft.regions = vec![RegionRecord {
+        start: start as u32,
+        pages: rng.pick(&[pages, pages, pages, long]) as u32,
+    }];
+}
+
+/// 13: flash at an odd start, at and past 2^32, and at the edges of RAM.
+fn damage_flash_place(rng: &mut Rng, draft: &mut Draft) {
+    let whole = draft.flash_len().next_multiple_of(PAGE);
+    let (ram_from, ram_to) = (draft.area_of_ram().from(), draft.area_of_ram().to());
+    let top = 1u64 << 32;
+    let odd = rng.pick(&[0, 1, 2048, 4095]);
+    let some = PAGE * rng.below(whole / PAGE + 1);
+    let one_byte_more = rng.chance(40);
+    let start = match rng.below(16) {
+        0..=1 => u64::from(draft.flash_start) + odd,
+        2 => {
+            draft.empty_flash();
+            rng.pick(&[draft.flash_start.into(), ram_from + PAGE, top - PAGE]) + odd
+        }
+        // Up to 2^32, or past it.
+        3..=4 => top - whole,
+        5 => top - some,
+        // Up to RAM from below, and sharing some of it.
+        6..=8 => ram_from.wrapping_sub(whole),
+        9 => ram_from.wrapping_sub(some),
+        // From the end of RAM on, from its last page on, or from any.
+        10..=11 => ram_to,
+        12 => ram_to.wrapping_sub(PAGE),
+        13 => ram_from + PAGE * rng.below(draft.ram_len / PAGE + 1),
+        14 => {
+            draft.empty_flash();
+            ram_from + PAGE * rng.below(draft.ram_len / PAGE + 1)
+        }
+        _ => {
+            // Empty RAM in flash shares no address with it.
+            draft.ram_len = 0;
+            ram_from.wrapping_sub(some)
+        }
+    };
+    if one_byte_more && !draft.flash.is_empty() {
+        draft.flash.resize(whole as usize + 1, 0);
+    }
+    draft.flash_start = start as u32;
+}
+
 /// 12: RAM with just the pages needed, one or some fewer; and trackers on the border of one page.
 fn damage_ram_pages(rng: &mut Rng, draft: &mut Draft) {
     if rng.chance(25) {
@@ -484,7 +591,9 @@ fn damage_ram_pages(rng: &mut Rng, draft: &mut Draft) {
         return;
     }
     // The exact number can only be counted while the other records are sound.
-    if rules::read_board(&draft.block(), draft.flash_len, Ram { start: 0, len: 0 }).is_err() {
+    let flash = draft.memory_of_flash().area();
+    let no_ram = Area { start: 0, len: 0 };
+    if rules::read_board(&draft.block(), flash, no_ram, Fault::None).is_err() {
         return;
     }
     let exact = draft.exact_pages();
@@ -492,11 +601,12 @@ fn damage_ram_pages(rng: &mut Rng, draft: &mut Draft) {
         0 if exact < 4096 => {
             // One region such that RAM and I/O pages fill one tracker page, or are one too many.
             let pages = 4096 - exact as u32 + rng.below(2) as u32;
-            let start = if draft.start < 0x8000_0000 {
-                0xc000_0000
-            } else {
-                0x2000_0000
+            let far = |start: &u32| {
+                let near = [draft.start, draft.flash_start];
+                near.iter().all(|at| at.abs_diff(*start) > 0x1000_0000)
             };
+            let starts = [0x3000_0000, 0x8000_0000, 0xc000_0000];
+            let start = starts.into_iter().find(far).unwrap_or(0);
             draft.regions = vec![RegionRecord { start, pages }];
             draft.ram_len = exact * PAGE;
         }
@@ -554,9 +664,9 @@ fn mangled(rng: &mut Rng) -> Case {
         }
     }
     if rng.chance(20) {
-        draft.flash_len = rng.below(draft.flash_len + 1);
+        draft.flash.truncate(rng.index(draft.flash.len() + 1));
     }
-    finish(rng, "mangled block".to_string(), block, &draft)
+    finish(rng, "mangled block".to_string(), block, draft)
 }
 
 /// Noise: a block of noise alone, or with a right header, or with a right header and likely words.
@@ -587,14 +697,22 @@ fn random(rng: &mut Rng) -> Case {
             word.copy_from_slice(&rng.pick(&ODD_WORDS).to_le_bytes());
         }
     }
+    let draft = random_places(rng);
+    finish(rng, "random block".to_string(), block, draft)
+}
+
+/// RAM and flash of any length, anywhere.
+fn random_places(rng: &mut Rng) -> Draft {
     let odd = if rng.chance(20) { rng.below(4096) } else { 0 };
-    let start =
-        (rng.below(1 << 20) * PAGE + if rng.chance(10) { rng.below(4096) } else { 0 }) as u32;
-    let draft = Draft {
-        flash_len: rng.below(9000),
+    let mut start =
+        || (rng.below(1 << 20) * PAGE + if rng.chance(10) { rng.below(4096) } else { 0 }) as u32;
+    let (start, flash_start) = (start(), start());
+    let flash_len = rng.below(9000);
+    Draft {
+        flash: rng.bytes(flash_len),
+        flash_start,
         ram_len: rng.below(40) * PAGE + odd,
         start,
         ..Draft::default()
-    };
-    finish(rng, "random block".to_string(), block, &draft)
+    }
 }

@@ -1,20 +1,22 @@
-//! One case: the library's answer, RAM and walks against what the rules say.
+//! One case: the library's answer, RAM, walks and pages against what the rules say.
 
 use crate::cases::{self, Case};
 use crate::demand3;
-use crate::ffi::{self, Lent};
+use crate::ffi::{self, Lent, Memories};
+use crate::met::{Kind, Met};
+use crate::reached;
 use crate::reader;
 use crate::rng::Rng;
 use crate::rules::{self, Boot, Fault, Outcome, Sight, PAGE};
-use crate::walker::{self, Found};
+use crate::walker::{self, Found, Part};
 use crate::writer;
 
 /// Cases by the number of their answer.
 #[derive(Default)]
 pub struct Numbers {
-    pub all: [u64; 13],
+    pub all: [u64; 14],
     /// Those refused at a record after the first where there is more than one process: a wrong offset shows there.
-    pub later: [u64; 13],
+    pub later: [u64; 14],
 }
 
 impl Numbers {
@@ -39,8 +41,10 @@ impl Numbers {
 #[derive(Default)]
 pub struct Tally {
     pub numbers: Numbers,
+    pub met: Met,
     pub walks: u64,
-    /// Pairs of RAMs on which a block boots, and those whose new RAM draws 1 or 11.
+    pub pages: u64,
+    /// Pairs of RAMs on which a block boots, and those whose new RAM draws 1, 11 or 13.
     pub pairs: u64,
     pub pairs_refused: u64,
     /// Pairs in which the new RAM's tracker has a page more.
@@ -49,34 +53,38 @@ pub struct Tally {
 }
 
 pub fn compare(case: &Case, fault: Fault, rng: &mut Rng, tally: &mut Tally) -> Result<(), String> {
-    let want = rules::load(&case.block, &case.flash, &case.ram, case.start, fault);
-    let mut ram = compare_load(case, &want, rng)?;
+    let (flash, ram) = (case.memory_of_flash(), case.memory_of_ram());
+    let want = rules::load(&case.block, flash, ram, fault);
+    let mut lent = compare_load(case, &want, rng)?;
     tally.numbers.count(case, &want);
+    tally.met.case(case, &want);
     if let Some(boot) = &want.boot {
+        reached::check(boot, lent.ram.memory(), lent.flash.memory())?;
         for process in boot.plan.processes() {
-            compare_view(boot, &mut ram, case.start, process, rng, tally)?;
+            compare_view(boot, &mut lent, process, fault, rng, tally)?;
         }
         if rng.below(300) == 0 {
-            compare_all_addresses(boot, &mut ram, case.start, rng, tally)?;
+            compare_all_addresses(boot, &mut lent, fault, rng, tally)?;
         }
         let large = case.ram.len() > 2 << 20;
         if !large || rng.chance(25) {
-            demand3::compare(case, &want, boot, &mut ram, fault, rng, tally)?;
+            demand3::compare(case, &want, boot, &mut lent, fault, rng, tally)?;
         }
-        unchanged("RAM, by the walks", &ram, &want.image)?;
+        unchanged("RAM, by the reader", &lent.ram, &want.image)?;
         if !large && rng.chance(30) {
-            reader::compare_spoilt(boot, &mut ram, case.start, rng, tally)?;
+            reader::compare_spoilt(boot, &mut lent, fault, rng, tally)?;
         }
+        unchanged("flash, by the reader", &lent.flash, &case.flash)?;
     }
-    reader::compare_malformed(rng, tally)
+    reader::compare_malformed(fault, rng, tally)
 }
 
 /// Both loading entries, each call on a RAM of its own: `rigpollen_answer` with a slice that holds the
 /// whole answer and, in half of the cases, with one that does not; then `rigpollen_load`. Then the entries without RAM.
-/// Gives back RAM as the first call left it.
-pub fn compare_load(case: &Case, want: &Outcome, rng: &mut Rng) -> Result<Lent, String> {
+/// Gives back RAM as the first call left it, and flash.
+pub fn compare_load(case: &Case, want: &Outcome, rng: &mut Rng) -> Result<Memories, String> {
     let mut block = Lent::new(&case.block, rng.index(8));
-    let mut flash = Lent::new(&case.flash, rng.index(8));
+    let mut flash = Lent::new(&case.flash, rng.index(8)).at(case.flash_start);
     let whole = want.answer.len();
     let mut lengths = vec![whole + rng.index(3)];
     if rng.chance(50) {
@@ -84,14 +92,14 @@ pub fn compare_load(case: &Case, want: &Outcome, rng: &mut Rng) -> Result<Lent, 
     }
     let mut first = None;
     for len in lengths {
-        let mut ram = Lent::new(&case.ram, rng.index(8));
-        let got = ffi::answer(&mut block, &mut flash, &mut ram, case.start, len);
+        let mut ram = Lent::new(&case.ram, rng.index(8)).at(case.start);
+        let got = ffi::answer(&mut block, &mut flash, &mut ram, len);
         compare_words("rigpollen_answer", got, len, want.answer[0], &want.answer)?;
         compare_lent("rigpollen_answer", case, want, &block, &flash, &ram)?;
         first.get_or_insert(ram);
     }
-    let mut ram = Lent::new(&case.ram, rng.index(8));
-    let number = ffi::load(&mut block, &mut flash, &mut ram, case.start);
+    let mut ram = Lent::new(&case.ram, rng.index(8)).at(case.start);
+    let number = ffi::load(&mut block, &mut flash, &mut ram);
     if number != want.answer[0] {
         return Err(format!(
             "rigpollen_load returns {number}; the rules give {:?}",
@@ -102,7 +110,8 @@ pub fn compare_load(case: &Case, want: &Outcome, rng: &mut Rng) -> Result<Lent, 
     compare_without_ram(case, want, &mut block, &mut flash, rng)?;
     unchanged("entries without RAM: the block", &block, &case.block)?;
     unchanged("entries without RAM: flash", &flash, &case.flash)?;
-    Ok(first.unwrap_or(ram))
+    let ram = first.unwrap_or(ram);
+    Ok(Memories { ram, flash })
 }
 
 /// The entries that are lent no RAM: the answer, and the words of every process, of number 0, of the number after the
@@ -114,10 +123,7 @@ fn compare_without_ram(
     flash: &mut Lent,
     rng: &mut Rng,
 ) -> Result<(), String> {
-    let ram = ffi::Place {
-        start: case.start,
-        len: case.ram.len(),
-    };
+    let ram = case.memory_of_ram().area();
     let len = rng.index(9);
     let got = ffi::check(block, flash, ram, len);
     compare_words("rigpollen_check", got, len, want.answer[0], &want.answer)?;
@@ -231,49 +237,111 @@ pub fn unchanged(what: &str, area: &Lent, before: &[u8]) -> Result<(), String> {
     guards(what, area)
 }
 
-/// One walk by the library, with a `page` slice of 0 to 3 words, against one answer.
+/// One walk by the library, with a `page` slice of 0 to 3 words, and the bytes of the page, against one answer.
 pub fn compare_walk(
-    ram: &mut Lent,
-    start: u32,
+    lent: &mut Memories,
     root: u32,
     address: u32,
     want: Found,
+    fault: Fault,
     rng: &mut Rng,
     tally: &mut Tally,
 ) -> Result<(), String> {
     let len = rng.index(4);
-    let got = ffi::walk(ram, start, root, address, len);
+    let ram = &mut lent.ram;
+    let got = ffi::walk(ram, root, address, len);
     tally.walks += 1;
     let wanted = ffi::page_words(want, len);
     if got != wanted {
         return Err(format!(
-            "rigpollen_walk (RAM {:#x} bytes at {start:#x}, root {root:#x}, address {address:#010x}, {len} words) gives {:x?};\n  \
+            "rigpollen_walk (RAM {:#x} bytes at {:#x}, root {root:#x}, address {address:#010x}, {len} words) gives {:x?};\n  \
              wanted is {want:x?}, so {wanted:x?}",
-            ram.bytes().len(), got
+            ram.bytes().len(), ram.start, got
         ));
     }
+    compare_page(lent, root, address, want, fault, rng, tally)
+}
+
+/// How many bytes are lent for a page's.
+fn draw_room(want: Found, rng: &mut Rng) -> usize {
+    match (want, rng.below(8)) {
+        (Found::Page { .. }, 0..=4) => rng.pick(&[4095, 4096, 4096, 4097, 5000, 8192]),
+        (Found::Page { .. }, 5) => rng.index(PAGE as usize),
+        (_, 6) => 0,
+        _ => rng.index(40),
+    }
+}
+
+/// The bytes of a page by the library, with a `bytes` area of any length, against those in RAM and flash.
+fn compare_page(
+    lent: &mut Memories,
+    root: u32,
+    address: u32,
+    want: Found,
+    fault: Fault,
+    rng: &mut Rng,
+    tally: &mut Tally,
+) -> Result<(), String> {
+    let len = draw_room(want, rng);
+    let (returned, got) = ffi::page(lent, root, address, len);
+    tally.pages += 1;
+    let (ram, flash) = (lent.ram.memory(), lent.flash.memory());
+    let part = walker::part(ram, flash, want, fault);
+    let bytes = walker::part_bytes(ram, flash, part);
+    let wanted = ffi::part_around(bytes, len);
+    if returned != bytes.len() as u64 || got != wanted {
+        let what = match first_difference(&got, &wanted) {
+            Some(at) => format!(
+                " and {:#04x} for {:#04x} at byte {}",
+                got[at],
+                wanted[at],
+                at as i64 - ffi::AROUND as i64
+            ),
+            None => String::new(),
+        };
+        return Err(format!(
+            "rigpollen_page (RAM {:#x} bytes at {:#x}, flash {:#x} at {:#x}, root {root:#x}, address {address:#010x}, {len} bytes) returns \
+             {returned}{what}; wanted is {want:x?}, so {part:x?}",
+            ram.bytes.len(), ram.start, flash.bytes.len(), flash.start
+        ));
+    }
+    count_page(lent, root, want, part, len, &mut tally.met);
     Ok(())
 }
 
-/// The byte in RAM of an answered page at an address, if it is inside.
-fn byte_at(ram: &[u8], start: u32, number: u32, address: u32) -> Option<u8> {
-    let at = u64::from(number) * PAGE + u64::from(address) % PAGE;
-    ram.get(at.checked_sub(start.into())? as usize).copied()
-}
-
-/// The 4,096 bytes in RAM of an answered page, if they are inside.
-pub fn page_at(ram: &[u8], start: u32, number: u32) -> Option<&[u8]> {
-    let at = (u64::from(number) * PAGE).checked_sub(start.into())? as usize;
-    ram.get(at..at + PAGE as usize)
+fn count_page(lent: &Memories, root: u32, want: Found, part: Part, len: usize, met: &mut Met) {
+    let (ram, flash) = (lent.ram.memory(), lent.flash.memory());
+    let in_flash_alone = ram.place(root).is_none() && flash.place(root).is_some();
+    met.count(Kind::RootInFlash, in_flash_alone);
+    let Found::Page { number, .. } = want else {
+        return;
+    };
+    let from = u64::from(number) * PAGE;
+    let part_of_ram = ram.area().shares(from, from + PAGE);
+    let part_of_flash = flash.area().shares(from, from + PAGE);
+    let both = flash.place(number).is_some();
+    let (in_ram, in_flash) = (matches!(part, Part::Ram(_)), matches!(part, Part::Flash(_)));
+    let empty = part == Part::Empty;
+    met.count(Kind::PageInRam, in_ram && !part_of_flash);
+    met.count(Kind::PageInFlash, in_flash && !part_of_ram);
+    met.count(Kind::PageInBoth, in_ram && both);
+    met.count(Kind::PagePartlyInRam, in_flash && part_of_ram);
+    met.count(
+        Kind::PagePartlyInBoth,
+        empty && part_of_ram && part_of_flash,
+    );
+    met.count(Kind::PageInNeither, empty && !part_of_ram && !part_of_flash);
+    met.count(Kind::PagePast, in_flash && number >= 1 << 20);
+    met.count(Kind::PageCut, !empty && 0 < len && len < PAGE as usize);
 }
 
 /// One address of one process: the library's walk and the own walker against what the process is to see.
 fn compare_address(
     boot: &Boot,
-    ram: &mut Lent,
-    start: u32,
+    lent: &mut Memories,
     process: u32,
     address: u32,
+    fault: Fault,
     rng: &mut Rng,
     tally: &mut Tally,
 ) -> Result<(), String> {
@@ -291,30 +359,34 @@ fn compare_address(
         ),
     };
     let whose = |error| format!("process {process}: {error}");
-    compare_walk(ram, start, root, address, want, rng, tally).map_err(whose)?;
-    let own = walker::walk(ram.bytes(), start, root, address);
+    compare_walk(lent, root, address, want, fault, rng, tally).map_err(whose)?;
+    let own = walker::walk(lent.ram.memory(), root, address);
     if own != want {
         return Err(whose(format!(
             "the own walker finds {own:x?} at {address:#010x}; the process is to see {want:x?}"
         )));
     }
-    if let Found::Page { number, .. } = want {
-        let got = byte_at(ram.bytes(), start, number, address);
-        if got != byte {
-            return Err(whose(format!(
-                "byte at {address:#010x} is {got:x?}; the process is to see {byte:x?}"
-            )));
-        }
+    let got = shown(lent, want).get(at as usize).copied();
+    if got != byte {
+        return Err(whose(format!(
+            "byte at {address:#010x} is {got:x?}; the process is to see {byte:x?}"
+        )));
     }
     Ok(())
+}
+
+/// The bytes that RAM or flash holds where a page is answered.
+fn shown(lent: &Memories, found: Found) -> &[u8] {
+    let (ram, flash) = (lent.ram.memory(), lent.flash.memory());
+    walker::part_bytes(ram, flash, walker::part(ram, flash, found, Fault::None))
 }
 
 /// A process at every page where it sees something, at both neighbours, and at random addresses.
 fn compare_view(
     boot: &Boot,
-    ram: &mut Lent,
-    start: u32,
+    lent: &mut Memories,
     process: u32,
+    fault: Fault,
     rng: &mut Rng,
     tally: &mut Tally,
 ) -> Result<(), String> {
@@ -329,11 +401,11 @@ fn compare_view(
                 1 => 4095,
                 _ => rng.below(PAGE) as u32,
             };
-            compare_address(boot, ram, start, process, near << 12 | inside, rng, tally)?;
+            compare_address(boot, lent, process, near << 12 | inside, fault, rng, tally)?;
         }
-        if let Some(Sight::Page { page: used, .. }) = boot.plan.sight(process, page) {
-            let got = page_at(ram.bytes(), start, boot.plan.physical(used));
-            if got != Some(boot.bytes(used)) {
+        if let Some(Sight::Page { page: used, rights }) = boot.plan.sight(process, page) {
+            let number = boot.plan.physical(used);
+            if shown(lent, Found::Page { rights, number }) != boot.bytes(used) {
                 return Err(format!("process {process}: the bytes of virtual page {page:#x} are not those it is to see"));
             }
         }
@@ -354,7 +426,7 @@ fn compare_view(
                 u32::MAX,
             ]),
         };
-        compare_address(boot, ram, start, process, address, rng, tally)?;
+        compare_address(boot, lent, process, address, fault, rng, tally)?;
     }
     Ok(())
 }
@@ -362,14 +434,14 @@ fn compare_view(
 /// Every one of the 2^20 virtual pages of one process.
 fn compare_all_addresses(
     boot: &Boot,
-    ram: &mut Lent,
-    start: u32,
+    lent: &mut Memories,
+    fault: Fault,
     rng: &mut Rng,
     tally: &mut Tally,
 ) -> Result<(), String> {
     let process = rng.between(1, *boot.plan.processes().end() as u64) as u32;
     for page in 0..1 << 20 {
-        compare_address(boot, ram, start, process, page << 12, rng, tally)?;
+        compare_address(boot, lent, process, page << 12, fault, rng, tally)?;
     }
     Ok(())
 }
@@ -380,6 +452,7 @@ pub fn other_ram(case: &Case, rng: &mut Rng, len: u64, start: u32) -> Case {
         what: String::new(),
         block: case.block.clone(),
         flash: case.flash.clone(),
+        flash_start: case.flash_start,
         ram: cases::dirty_ram(rng, len),
         start,
     }

@@ -1,16 +1,18 @@
-//! Demand 3 by running: the same block and flash on a RAM and on another with as many pages or more.
+//! Demand 3 by running: the same block, flash and flash's start on a RAM and on another with as many pages or more.
 //! What every process sees is the same on both, with 01's two exceptions and no more.
 
 use crate::cases::Case;
-use crate::check::{self, page_at, Tally};
-use crate::ffi::{self, Lent};
+use crate::check::{self, Tally};
+use crate::ffi::{self, Memories};
+use crate::memory::Area;
+use crate::met::Kind;
 use crate::rng::Rng;
 use crate::rules::{self, Boot, Fault, Outcome, LIST_PAGE, PAGE, TRACKER_PAGE};
 use crate::walker::Found;
 use std::collections::BTreeSet;
 
-/// A RAM with as many pages or more: its length and start. Some draw 1 or 11.
-fn draw_ram(rng: &mut Rng, boot: &Boot, pages: u64) -> (u64, u32) {
+/// A RAM with as many pages or more: its length and start. Some draw 1, 11 or 13.
+fn draw_ram(rng: &mut Rng, boot: &Boot, flash: Area, pages: u64) -> (u64, u32) {
     let board = &boot.plan.board;
     let to_longer_tracker = (4097 - board.io_pages().min(4096)).saturating_sub(pages);
     let more = match rng.below(12) {
@@ -24,9 +26,12 @@ fn draw_ram(rng: &mut Rng, boot: &Boot, pages: u64) -> (u64, u32) {
     };
     let pages = (pages + more).min(4096);
     let room = (1 << 20) - pages;
-    let page = match rng.below(12) {
+    let page = match rng.below(14) {
         0 => 0,
         1 => room,
+        // Touching flash, or on its first or its last page.
+        12 => (flash.to().div_ceil(PAGE) - rng.pick(&[0, 0, 1]).min(flash.pages())).min(room),
+        13 => (flash.from() / PAGE).saturating_sub(pages - rng.pick(&[0, 0, 1])),
         2 if !board.regions.is_empty() => {
             let region = &board.regions[rng.index(board.regions.len())];
             rng.pick(&[region.start / PAGE, region.start / PAGE + region.pages])
@@ -43,24 +48,29 @@ fn draw_ram(rng: &mut Rng, boot: &Boot, pages: u64) -> (u64, u32) {
 
 /// One of the two RAMs, loaded.
 struct Side<'a> {
-    ram: &'a mut Lent,
-    start: u32,
+    lent: &'a mut Memories,
     boot: &'a Boot,
 }
 
 impl Side<'_> {
     /// What a process sees on a virtual page, by the library's reader: the answer and the page's bytes.
-    fn sees(&mut self, process: u32, page: u32) -> Result<(Found, &[u8]), String> {
+    fn sees(&mut self, process: u32, page: u32) -> Result<(Found, Vec<u8>), String> {
         let root = self.boot.plan.root(process);
-        let found = ffi::found(self.ram, self.start, root, page << 12)
+        let found = ffi::found(&mut self.lent.ram, root, page << 12)
             .ok_or_else(|| format!("rigpollen_walk of process {process} at page {page:#x} gives no number of its three"))?;
-        let bytes = match found {
-            Found::Page { number, .. } => page_at(self.ram.bytes(), self.start, number)
-                .ok_or_else(|| {
-                    format!("process {process} sees a page outside RAM at page {page:#x}")
-                })?,
-            _ => &[],
-        };
+        let is_page = matches!(found, Found::Page { .. });
+        let room = if is_page { PAGE as usize } else { 1 };
+        let bytes = ffi::page_bytes(self.lent, root, page << 12, room).ok_or_else(|| {
+            format!(
+                "rigpollen_page of process {process} at page {page:#x} gives no length of its two"
+            )
+        })?;
+        if is_page == bytes.is_empty() {
+            return Err(format!(
+                "process {process} sees {found:x?} and {} bytes at page {page:#x}",
+                bytes.len()
+            ));
+        }
         Ok((found, bytes))
     }
 }
@@ -78,22 +88,25 @@ pub fn compare(
     case: &Case,
     want: &Outcome,
     boot: &Boot,
-    ram: &mut Lent,
+    lent: &mut Memories,
     fault: Fault,
     rng: &mut Rng,
     tally: &mut Tally,
 ) -> Result<(), String> {
-    let (len, start) = draw_ram(rng, boot, case.ram.len() as u64 / PAGE);
+    let flash = case.memory_of_flash().area();
+    let (len, start) = draw_ram(rng, boot, flash, case.ram.len() as u64 / PAGE);
     let new = check::other_ram(case, rng, len, start);
     let which = |error| format!("on a second RAM of {len:#x} bytes at {start:#x}: {error}");
-    let new_want = rules::load(&new.block, &new.flash, &new.ram, start, fault);
-    let mut new_ram = check::compare_load(&new, &new_want, rng).map_err(which)?;
+    let (new_flash, new_ram) = (new.memory_of_flash(), new.memory_of_ram());
+    let new_want = rules::load(&new.block, new_flash, new_ram, fault);
+    let mut new_lent = check::compare_load(&new, &new_want, rng).map_err(which)?;
 
-    // "Boots on the larger if it draws neither 1 nor 11."
+    // "Boots on the larger if it draws neither 1 nor 11", and by 02 (A6) "its new RAM must not draw 13 either".
     let new_boot = match (&new_want.boot, new_want.answer[0]) {
         (Some(new_boot), _) => new_boot,
-        (None, 1 | 11) => {
+        (None, 1 | 11 | 13) => {
             tally.pairs_refused += 1;
+            tally.met.count(Kind::PairRefused, new_want.answer[0] == 13);
             return Ok(());
         }
         (None, number) => {
@@ -110,15 +123,12 @@ pub fn compare(
     }
     tally.pairs += 1;
     tally.pairs_longer_tracker += u64::from(new_want.answer[4] > want.answer[4]);
+    let straight = new_boot.plan.straight.contains(&true);
+    tally.met.count(Kind::PairStraight, straight);
 
-    let mut old = Side {
-        ram,
-        start: case.start,
-        boot,
-    };
+    let mut old = Side { lent, boot };
     let mut new = Side {
-        ram: &mut new_ram,
-        start,
+        lent: &mut new_lent,
         boot: new_boot,
     };
     for process in boot.plan.processes() {
@@ -144,7 +154,8 @@ pub fn compare(
             compare_page(&mut old, &mut new, process, *page, tally).map_err(which)?;
         }
     }
-    check::unchanged("RAM, by the walks", &new_ram, &new_want.image).map_err(which)
+    check::unchanged("flash, by the reader", &new_lent.flash, &case.flash).map_err(which)?;
+    check::unchanged("RAM, by the reader", &new_lent.ram, &new_want.image).map_err(which)
 }
 
 fn compare_page(
@@ -155,6 +166,7 @@ fn compare_page(
     tally: &mut Tally,
 ) -> Result<(), String> {
     tally.walks += 2;
+    tally.pages += 2;
     let processes = *old.boot.plan.processes().end() as usize;
     let (old_tracker, new_tracker) = (old.boot.plan.tracker_pages, new.boot.plan.tracker_pages);
     let (old_found, old_bytes) = old.sees(process, page)?;

@@ -1,9 +1,9 @@
 //! Boot blocks in the making: records that can be changed one by one, and valid boards of all sizes.
 
+use crate::images;
+use crate::memory::{Area, Memory};
 use crate::rng::Rng;
-use crate::rules::{
-    self, Board, Fault, Plan, Process, Ram, Region, Section, EXECUTABLE, NOCOPY, PAGE,
-};
+use crate::rules::{self, Board, Fault, Plan, Process, Region, Section, EXECUTABLE, NOCOPY, PAGE};
 
 #[derive(Clone, Copy)]
 pub struct ProcessRecord {
@@ -34,6 +34,11 @@ impl SectionRecord {
     pub fn last_page(&self) -> u64 {
         (u64::from(self.va) + u64::from(self.size.max(1)) - 1) / PAGE
     }
+
+    /// Where its bytes end in flash.
+    pub fn offset_end(&self) -> u64 {
+        u64::from(self.offset) + u64::from(self.size)
+    }
 }
 
 #[derive(Clone, Copy)]
@@ -51,12 +56,31 @@ pub struct Draft {
     pub header: Vec<(usize, u32)>,
     /// The block's true length where it is not the tight one.
     pub length: Option<usize>,
-    pub flash_len: u64,
+    pub flash: Vec<u8>,
+    pub flash_start: u32,
     pub ram_len: u64,
     pub start: u32,
 }
 
 impl Draft {
+    pub fn flash_len(&self) -> u64 {
+        self.flash.len() as u64
+    }
+
+    pub fn memory_of_flash(&self) -> Memory<'_> {
+        Memory {
+            bytes: &self.flash,
+            start: self.flash_start,
+        }
+    }
+
+    pub fn area_of_ram(&self) -> Area {
+        Area {
+            start: self.start,
+            len: self.ram_len,
+        }
+    }
+
     pub fn block(&self) -> Vec<u8> {
         let (p, s, r) = (
             self.processes.len(),
@@ -98,6 +122,7 @@ impl Draft {
         let process = |r: &ProcessRecord| Process {
             entry: r.entry,
             sections: r.first as usize..(r.first + r.count) as usize,
+            kind: r.kind,
         };
         let section = |r: &SectionRecord| Section {
             va: r.va.into(),
@@ -120,15 +145,25 @@ impl Draft {
     pub fn exact_pages(&self) -> u64 {
         let mut pages = 0;
         loop {
-            let ram = Ram {
+            let ram = Area {
                 start: 0,
                 len: pages * PAGE,
             };
-            let needed = Plan::new(self.board(), ram, Fault::None).needed();
+            let flash = self.memory_of_flash();
+            let needed = Plan::new(self.board(), flash, ram, Fault::None).needed();
             if needed <= pages {
                 return pages;
             }
             pages = needed;
+        }
+    }
+
+    /// An image of no bytes, and no section that is in it.
+    pub fn empty_flash(&mut self) {
+        self.flash.clear();
+        for section in &mut self.sections {
+            section.flags |= NOCOPY;
+            section.offset = 0;
         }
     }
 
@@ -162,6 +197,8 @@ struct Size {
     regions: (u64, u64),
     /// RAM pages that the sections are to be stretched to; 0: as they come.
     target: u64,
+    /// Whether most sections are to be used straight from flash.
+    straight: bool,
 }
 
 fn draw_size(rng: &mut Rng) -> Size {
@@ -171,9 +208,14 @@ fn draw_size(rng: &mut Rng) -> Size {
         section_pages,
         regions,
         target: 0,
+        straight: false,
     };
     match rng.below(100) {
-        0..=49 => size((1, 3), rng.between(1, 6), 3, (0, 2)),
+        0..=15 => Size {
+            straight: true,
+            ..size((2, 5), rng.between(2, 10), 3, (0, 2))
+        },
+        16..=49 => size((1, 3), rng.between(1, 6), 3, (0, 2)),
         50..=84 => size((1, 16), rng.between(1, 64), 4, (0, 8)),
         85..=93 => size((16, 16), 64, 3, (32, 32)),
         94..=97 => Size {
@@ -191,18 +233,11 @@ fn draw_size(rng: &mut Rng) -> Size {
     }
 }
 
-/// A block, flash length and RAM that boot, with at least `room` pages free if there can be so many.
+/// A block, flash and RAM that boot, with at least `room` pages free if there can be so many.
 pub fn valid(rng: &mut Rng, room: u64) -> Draft {
     let size = draw_size(rng);
     let mut draft = Draft::default();
-    let p = rng.between(size.processes.0, size.processes.1);
-    let s = size.sections.clamp(p, 64);
-    let mut counts = vec![1; p as usize];
-    for _ in p..s {
-        let i = rng.index(counts.len());
-        counts[i] += 1;
-    }
-    for (i, count) in counts.into_iter().enumerate() {
+    for (i, count) in draw_counts(rng, &size).into_iter().enumerate() {
         let first = draft.sections.len() as u32;
         draft.processes.push(ProcessRecord {
             entry: 0,
@@ -217,8 +252,12 @@ pub fn valid(rng: &mut Rng, room: u64) -> Draft {
     if size.target > 0 {
         stretch(rng, &mut draft, size.target);
     }
+    if rng.chance(40) {
+        make_twin(rng, &mut draft);
+    }
+    draw_kinds(rng, &mut draft, size.straight);
     draw_entries(rng, &mut draft);
-    draw_flash(rng, &mut draft);
+    images::draw(rng, &mut draft, size.straight);
     let exact = draft.exact_pages();
     let spare = match rng.below(10) {
         0..=2 => 0,
@@ -229,6 +268,18 @@ pub fn valid(rng: &mut Rng, room: u64) -> Draft {
     draft.ram_len = (exact + spare + room).min(exact.max(4096)) * PAGE;
     lay_out(rng, &mut draft);
     draft
+}
+
+/// How many sections each process has.
+fn draw_counts(rng: &mut Rng, size: &Size) -> Vec<u32> {
+    let p = rng.between(size.processes.0, size.processes.1);
+    let s = size.sections.clamp(p, 64);
+    let mut counts = vec![1; p as usize];
+    for _ in p..s {
+        let i = rng.index(counts.len());
+        counts[i] += 1;
+    }
+    counts
 }
 
 /// Sections of one process, rising: close together, over 4 MiB borders, far apart, at either end.
@@ -354,6 +405,22 @@ fn stretch(rng: &mut Rng, draft: &mut Draft, target: u64) {
     }
 }
 
+/// Gives a section the form of another, so that the two can be the same bytes of flash.
+fn make_twin(rng: &mut Rng, draft: &mut Draft) {
+    let of = draft.sections[rng.index(draft.sections.len())];
+    let i = rng.index(draft.sections.len());
+    let section = &mut draft.sections[i];
+    let va = section.first_page() * PAGE + u64::from(of.va) % PAGE;
+    let twin = SectionRecord {
+        va: va as u32,
+        size: of.size,
+        ..*section
+    };
+    if twin.last_page() <= section.last_page() {
+        *section = twin;
+    }
+}
+
 /// Every process gets an executable section and an entry point in it, often its first or last byte.
 fn draw_entries(rng: &mut Rng, draft: &mut Draft) {
     for process in &mut draft.processes {
@@ -369,33 +436,41 @@ fn draw_entries(rng: &mut Rng, draft: &mut Draft) {
     }
 }
 
-/// A flash image that holds the longest copied section, and offsets in it.
-fn draw_flash(rng: &mut Rng, draft: &mut Draft) {
-    let longest = draft
-        .sections
-        .iter()
-        .filter(|r| r.copied())
-        .map(|r| u64::from(r.size))
-        .max()
-        .unwrap_or(0);
-    let spare = if rng.chance(30) { 0 } else { rng.below(6000) };
-    draft.flash_len = longest + spare;
-    for section in draft.sections.iter_mut().filter(|r| r.copied()) {
-        let most = draft.flash_len - u64::from(section.size);
-        section.offset = match rng.below(10) {
-            0 => 0,
-            1..=2 => most,
-            _ => rng.below(most + 1),
-        } as u32;
+/// Kinds of the user processes: all 0, all 1, or any.
+fn draw_kinds(rng: &mut Rng, draft: &mut Draft, straight: bool) {
+    let percent = rng.pick(&[0, 100, 60, 60]);
+    for i in 1..draft.processes.len() {
+        let process = &mut draft.processes[i];
+        process.kind = u32::from(straight || rng.chance(percent));
+        let sections = process.first as usize..(process.first + process.count) as usize;
+        for section in draft.sections[sections].iter_mut().filter(|_| straight) {
+            section.flags = rng.pick(&[0, 0, EXECUTABLE, EXECUTABLE, 1, 2]);
+        }
     }
 }
 
-/// Gives RAM and the regions places that share nothing: touching, far apart, from 0, up to 2^32.
+/// Gives RAM, flash and the regions places that share nothing: touching, far apart, from 0, up to 2^32. An empty image may be anywhere.
 fn lay_out(rng: &mut Rng, draft: &mut Draft) {
-    let ram_pages = draft.ram_len / PAGE;
-    let ram_at = rng.index(draft.regions.len() + 1);
     let mut lengths: Vec<u64> = draft.regions.iter().map(|r| u64::from(r.pages)).collect();
-    lengths.insert(ram_at, ram_pages);
+    let ram_at = rng.index(lengths.len() + 1);
+    lengths.insert(ram_at, draft.ram_len / PAGE);
+    let flash_at = rng.index(lengths.len() + 1);
+    lengths.insert(flash_at, draft.flash_len().div_ceil(PAGE));
+    let mut starts = draw_starts(rng, &lengths);
+    draft.flash_start = starts.remove(flash_at);
+    draft.start = starts.remove(ram_at);
+    for (region, start) in draft.regions.iter_mut().zip(starts) {
+        region.start = start;
+    }
+    if draft.flash.is_empty() && rng.chance(50) {
+        let page_of_ram = rng.below(draft.ram_len / PAGE) * PAGE;
+        let anywhere = rng.word() & 0xffff_f000;
+        draft.flash_start = rng.pick(&[draft.start + page_of_ram as u32, anywhere]);
+    }
+}
+
+/// Rising addresses for areas of so many pages, one after the other.
+fn draw_starts(rng: &mut Rng, lengths: &[u64]) -> Vec<u32> {
     let space = (1 << 20) - lengths.iter().sum::<u64>();
     let mut gaps: Vec<u64> = lengths.iter().map(|_| rng.below(space + 1)).collect();
     gaps.sort_unstable();
@@ -411,13 +486,10 @@ fn lay_out(rng: &mut Rng, draft: &mut Draft) {
         gaps[lengths.len() - 1] = space;
     }
     let mut before = 0;
-    let mut starts: Vec<u32> = Vec::new();
-    for (gap, length) in gaps.iter().zip(&lengths) {
+    let mut starts = Vec::new();
+    for (gap, length) in gaps.iter().zip(lengths) {
         starts.push(((gap + before) * PAGE) as u32);
         before += length;
     }
-    draft.start = starts.remove(ram_at);
-    for (region, start) in draft.regions.iter_mut().zip(starts) {
-        region.start = start;
-    }
+    starts
 }

@@ -1,5 +1,7 @@
-//! The six C entries of the library, and areas to lend to them with guard bytes or guard words on both sides.
+//! The seven C entries of the library, and areas to lend to them with guard bytes or guard words on both sides.
 
+use crate::memory::{Area, Memory};
+use crate::rules::PAGE;
 use crate::walker::Found;
 use std::sync::atomic::{AtomicU64, Ordering};
 
@@ -9,6 +11,7 @@ extern "C" {
         block_len: u64,
         flash: *const u8,
         flash_len: u64,
+        flash_start: u32,
         ram: *mut u8,
         ram_len: u64,
         ram_start: u32,
@@ -18,6 +21,7 @@ extern "C" {
         block_len: u64,
         flash: *const u8,
         flash_len: u64,
+        flash_start: u32,
         ram: *mut u8,
         ram_len: u64,
         ram_start: u32,
@@ -29,6 +33,7 @@ extern "C" {
         block_len: u64,
         flash: *const u8,
         flash_len: u64,
+        flash_start: u32,
         ram_len: u64,
         ram_start: u32,
         answer: *mut u32,
@@ -39,6 +44,7 @@ extern "C" {
         block_len: u64,
         flash: *const u8,
         flash_len: u64,
+        flash_start: u32,
         ram_len: u64,
         ram_start: u32,
         process: u32,
@@ -54,6 +60,18 @@ extern "C" {
         page: *mut u32,
         page_len: u64,
     ) -> u32;
+    fn rigpollen_page(
+        ram: *const u8,
+        ram_len: u64,
+        ram_start: u32,
+        flash: *const u8,
+        flash_len: u64,
+        flash_start: u32,
+        root: u32,
+        address: u32,
+        bytes: *mut u8,
+        bytes_len: u64,
+    ) -> u64;
     fn rigpollen_write_block(
         processes: *const u32,
         process_words: u64,
@@ -75,11 +93,12 @@ fn guard_byte(at: usize) -> u8 {
     (at as u8).wrapping_mul(29) ^ 0xa5
 }
 
-/// A byte area to be lent, in the middle of guard bytes.
+/// A byte area to be lent, in the middle of guard bytes. RAM and flash have a physical start.
 pub struct Lent {
     all: Vec<u8>,
     from: usize,
     len: usize,
+    pub start: u32,
 }
 
 impl Lent {
@@ -94,6 +113,18 @@ impl Lent {
             all,
             from,
             len: bytes.len(),
+            start: 0,
+        }
+    }
+
+    pub fn at(self, start: u32) -> Lent {
+        Lent { start, ..self }
+    }
+
+    pub fn memory(&self) -> Memory<'_> {
+        Memory {
+            bytes: self.bytes(),
+            start: self.start,
         }
     }
 
@@ -114,9 +145,15 @@ impl Lent {
             .map(|at| at as i64 - self.from as i64)
     }
 
-    fn start(&mut self) -> *mut u8 {
+    fn pointer(&mut self) -> *mut u8 {
         self.bytes_mut().as_mut_ptr()
     }
+}
+
+/// RAM and flash as they are lent to the reader.
+pub struct Memories {
+    pub ram: Lent,
+    pub flash: Lent,
 }
 
 /// What lies in the words around a lent list, and around and in an `answer`, `words` or `page` slice, before a call.
@@ -155,7 +192,7 @@ impl LentWords {
             .map(|at| at as i64 - GUARD_WORDS as i64)
     }
 
-    fn start(&mut self) -> *const u32 {
+    fn pointer(&mut self) -> *const u32 {
         self.all[GUARD_WORDS..].as_mut_ptr()
     }
 }
@@ -193,17 +230,18 @@ pub fn page_words(found: Found, len: usize) -> (u32, PageWords) {
     (number, words)
 }
 
-pub fn load(block: &mut Lent, flash: &mut Lent, ram: &mut Lent, start: u32) -> u32 {
+pub fn load(block: &mut Lent, flash: &mut Lent, ram: &mut Lent) -> u32 {
     // Each pointer and length names one area that lives until after the call.
     unsafe {
         rigpollen_load(
-            block.start(),
+            block.pointer(),
             block.len as u64,
-            flash.start(),
+            flash.pointer(),
             flash.len as u64,
-            ram.start(),
+            flash.start,
+            ram.pointer(),
             ram.len as u64,
-            start,
+            ram.start,
         )
     }
 }
@@ -212,7 +250,6 @@ pub fn answer(
     block: &mut Lent,
     flash: &mut Lent,
     ram: &mut Lent,
-    start: u32,
     len: usize,
 ) -> (u32, AnswerWords) {
     let mut words: AnswerWords = std::array::from_fn(word_pattern);
@@ -220,13 +257,14 @@ pub fn answer(
     // As above; `slice` has `len` words.
     let number = unsafe {
         rigpollen_answer(
-            block.start(),
+            block.pointer(),
             block.len as u64,
-            flash.start(),
+            flash.pointer(),
             flash.len as u64,
-            ram.start(),
+            flash.start,
+            ram.pointer(),
             ram.len as u64,
-            start,
+            ram.start,
             slice.as_mut_ptr(),
             len as u64,
         )
@@ -234,24 +272,18 @@ pub fn answer(
     (number, words)
 }
 
-/// RAM as the entries without RAM are told of it.
-#[derive(Clone, Copy)]
-pub struct Place {
-    pub start: u32,
-    pub len: usize,
-}
-
-pub fn check(block: &mut Lent, flash: &mut Lent, ram: Place, len: usize) -> (u32, AnswerWords) {
+pub fn check(block: &mut Lent, flash: &mut Lent, ram: Area, len: usize) -> (u32, AnswerWords) {
     let mut words: AnswerWords = std::array::from_fn(word_pattern);
     let slice = &mut words[ANSWER_AT..ANSWER_AT + len];
     // As above; `slice` has `len` words.
     let number = unsafe {
         rigpollen_check(
-            block.start(),
+            block.pointer(),
             block.len as u64,
-            flash.start(),
+            flash.pointer(),
             flash.len as u64,
-            ram.len as u64,
+            flash.start,
+            ram.len,
             ram.start,
             slice.as_mut_ptr(),
             len as u64,
@@ -263,7 +295,7 @@ pub fn check(block: &mut Lent, flash: &mut Lent, ram: Place, len: usize) -> (u32
 pub fn process(
     block: &mut Lent,
     flash: &mut Lent,
-    ram: Place,
+    ram: Area,
     process: u32,
     len: usize,
 ) -> (u32, AnswerWords) {
@@ -272,11 +304,12 @@ pub fn process(
     // As above; `slice` has `len` words.
     let number = unsafe {
         rigpollen_process(
-            block.start(),
+            block.pointer(),
             block.len as u64,
-            flash.start(),
+            flash.pointer(),
             flash.len as u64,
-            ram.len as u64,
+            flash.start,
+            ram.len,
             ram.start,
             process,
             slice.as_mut_ptr(),
@@ -286,15 +319,15 @@ pub fn process(
     (number, words)
 }
 
-pub fn walk(ram: &mut Lent, start: u32, root: u32, address: u32, len: usize) -> (u32, PageWords) {
+pub fn walk(ram: &mut Lent, root: u32, address: u32, len: usize) -> (u32, PageWords) {
     let mut words: PageWords = std::array::from_fn(word_pattern);
     let slice = &mut words[PAGE_AT..PAGE_AT + len];
     // As above; `slice` has `len` words.
     let number = unsafe {
         rigpollen_walk(
-            ram.start(),
+            ram.pointer(),
             ram.len as u64,
-            start,
+            ram.start,
             root,
             address,
             slice.as_mut_ptr(),
@@ -302,6 +335,53 @@ pub fn walk(ram: &mut Lent, start: u32, root: u32, address: u32, len: usize) -> 
         )
     };
     (number, words)
+}
+
+/// Guard bytes on each side of a `bytes` area.
+pub const AROUND: usize = 64;
+
+/// A `bytes` area of `len` bytes with guard bytes on both sides, after a call that puts `part` there.
+pub fn part_around(part: &[u8], len: usize) -> Vec<u8> {
+    let mut all: Vec<u8> = (0..AROUND + len + AROUND).map(guard_byte).collect();
+    let fit = len.min(part.len());
+    all[AROUND..AROUND + fit].copy_from_slice(&part[..fit]);
+    all
+}
+
+/// The length that is returned, and the `bytes` area of `len` bytes with its guard bytes.
+pub fn page(memories: &mut Memories, root: u32, address: u32, len: usize) -> (u64, Vec<u8>) {
+    let Memories { ram, flash } = memories;
+    let mut all = part_around(&[], len);
+    let slice = &mut all[AROUND..AROUND + len];
+    // As above; `slice` has `len` bytes.
+    let returned = unsafe {
+        rigpollen_page(
+            ram.pointer(),
+            ram.len as u64,
+            ram.start,
+            flash.pointer(),
+            flash.len as u64,
+            flash.start,
+            root,
+            address,
+            slice.as_mut_ptr(),
+            len as u64,
+        )
+    };
+    (returned, all)
+}
+
+/// The library's bytes of a page, of which at most `room` are looked at; `None` if the length is neither 0 nor 4,096.
+pub fn page_bytes(
+    memories: &mut Memories,
+    root: u32,
+    address: u32,
+    room: usize,
+) -> Option<Vec<u8>> {
+    let (returned, mut all) = page(memories, root, address, room);
+    all.truncate(AROUND + room.min(returned as usize));
+    all.drain(..AROUND);
+    (returned == 0 || returned == PAGE).then_some(all)
 }
 
 /// `lists` are the process, section and region records.
@@ -316,13 +396,13 @@ pub fn write_block(
     // As above; `slice` has `len` words.
     let number = unsafe {
         rigpollen_write_block(
-            processes.start(),
+            processes.pointer(),
             processes.len as u64,
-            sections.start(),
+            sections.pointer(),
             sections.len as u64,
-            regions.start(),
+            regions.pointer(),
             regions.len as u64,
-            buffer.start(),
+            buffer.pointer(),
             buffer.len as u64,
             slice.as_mut_ptr(),
             len as u64,
@@ -421,8 +501,8 @@ impl Far {
 }
 
 /// The library's walk as one answer; none if the number is none of the three.
-pub fn found(ram: &mut Lent, start: u32, root: u32, address: u32) -> Option<Found> {
-    let (number, words) = walk(ram, start, root, address, 2);
+pub fn found(ram: &mut Lent, root: u32, address: u32) -> Option<Found> {
+    let (number, words) = walk(ram, root, address, 2);
     match number {
         0 => Some(Found::Absent),
         1 => Some(Found::Reserved),

@@ -56,11 +56,11 @@ fn draw_counts(rng: &mut Rng) -> [u64; 3] {
 /// Records that draw no 6, if there are sections for all.
 fn sound_processes(rng: &mut Rng, p: u64, s: u64) -> Vec<ProcessRecord> {
     let mut records: Vec<ProcessRecord> = (0..p)
-        .map(|_| ProcessRecord {
+        .map(|i| ProcessRecord {
             entry: rng.word(),
             first: 0,
             count: 1,
-            kind: 0,
+            kind: u32::from(i > 0 && rng.chance(40)),
         })
         .collect();
     for _ in p..if p == 0 { 0 } else { s } {
@@ -92,7 +92,7 @@ fn damage(rng: &mut Rng, records: &mut [ProcessRecord], s: &mut u64) {
     let record = &mut records[i];
     match rng.below(11) {
         0..=1 => record.kind = bit,
-        2 => record.kind = rng.pick(&[u32::MAX, 256, 0]),
+        2 => record.kind = rng.pick(&[u32::MAX, 256, 257, 0, 1, 1, 2, 3]),
         3 => record.count = 0,
         4 => record.first = rng.pick(&[u32::MAX, 0, record.first.wrapping_add(off)]),
         5 => record.count = rng.pick(&[u32::MAX, record.count.wrapping_add(off)]),

@@ -12,21 +12,29 @@ mod check;
 mod demand3;
 mod draft;
 mod ffi;
+mod images;
 mod lists;
+mod memory;
+mod met;
+mod reached;
 mod reader;
 mod rng;
 mod rules;
 mod small;
+mod straight;
 mod walker;
 mod writer;
 
 use check::Tally;
 use rng::Rng;
 use rules::Fault;
+use std::ops::Range;
 use std::process::ExitCode;
 
 const SEED: u64 = 20_250;
 const CASES: u64 = 20_000;
+/// From how many cases on each kind of case (met.rs) must be met.
+const KIND_CASES: u64 = 5_000;
 /// Within how many cases a fault must be found.
 const FAULT_CASES: u64 = 500;
 
@@ -90,14 +98,27 @@ fn compare_cases(options: &Options) -> Result<(), String> {
     for number in 0..options.cases {
         one_case(options.seed, number, Fault::None, &mut tally)?;
     }
+    tell(&tally);
+    let all = met::NAMES.len();
+    let kinds = if options.cases < KIND_CASES { 0 } else { all };
+    all_came_up(&tally, 0..kinds).map_err(|never| format!("{never} in {} cases", options.cases))?;
+    println!("compare: {} cases agree", options.cases);
+    Ok(())
+}
+
+fn tell(tally: &Tally) {
     println!("number  cases  after record 0");
     let numbers = &tally.numbers;
     for (number, count) in numbers.all.iter().enumerate() {
         println!("{number:6}  {count:5}  {:14}", numbers.later[number]);
     }
-    println!("walks compared: {}", tally.walks);
+    println!("     met  kind of case");
+    for (name, count) in met::NAMES.iter().zip(&tally.met.0) {
+        println!("{count:8}  {name}");
+    }
+    println!("walks compared: {}, pages: {}", tally.walks, tally.pages);
     println!(
-        "pairs of RAM compared: {} ({} with a longer tracker); refused on the second by 1 or 11: {}",
+        "pairs of RAM compared: {} ({} with a longer tracker); refused on the second by 1, 11 or 13: {}",
         tally.pairs, tally.pairs_longer_tracker, tally.pairs_refused
     );
     let writer = &tally.writer;
@@ -110,15 +131,13 @@ fn compare_cases(options: &Options) -> Result<(), String> {
         "written and read: {}; blocks written back from their records: {}",
         writer.read_back, writer.written_back
     );
-    all_came_up(&tally).map_err(|never| format!("{never} in {} cases", options.cases))?;
-    println!("compare: {} cases agree", options.cases);
-    Ok(())
 }
 
-/// Every number of the loader and of the writer, those of a record also after record 0, and both round trips.
-fn all_came_up(tally: &Tally) -> Result<(), String> {
+/// Every number of the loader and of the writer, those of a record also after record 0, these kinds of case, and both round trips.
+fn all_came_up(tally: &Tally, kinds: Range<usize>) -> Result<(), String> {
     let writer = &tally.writer;
-    if let Some(never) = tally.numbers.missing().or(writer.numbers.missing()) {
+    let missing = tally.numbers.missing().or(writer.numbers.missing());
+    if let Some(never) = missing.or(tally.met.missing(kinds)) {
         return Err(format!("{never} never came up"));
     }
     if writer.read_back == 0 || writer.written_back == 0 {

@@ -1,10 +1,12 @@
 //! 01's rules for one call of the loader, as 02 changes them, written a second time.
 //!
 //! The structure is not that of a loader: first what each process sees is worked out from the block
-//! (a map from virtual page to reserved or to rights and a taken page), then the taken pages are put
-//! in 01's order, then the bytes of each are worked out, and last they are laid over RAM.
+//! (a map from virtual page to reserved or to rights and a use), then the uses that take a page of RAM are
+//! put in 01's order, then the bytes of each are worked out, and last they are laid over RAM.
 
-use std::collections::BTreeMap;
+use crate::memory::{Area, Memory};
+use crate::straight;
+use std::collections::{BTreeMap, BTreeSet};
 use std::ops::Range;
 
 pub const PAGE: u64 = 4096;
@@ -36,8 +38,8 @@ fn page_flags(rights: u32) -> u32 {
     1 | rights << 1 | 64 | dirty
 }
 
-/// Faults that can be switched on here to try the comparison: 01's five (the third has two halves), those of the block writer, and
-/// those of a record's offset.
+/// Faults that can be switched on here to try the comparison: 01's five (the third has two halves), those of the block writer, those of
+/// a record's offset, and those of sections used straight from flash.
 #[derive(Clone, Copy, PartialEq, Eq)]
 pub enum Fault {
     None,
@@ -55,9 +57,17 @@ pub enum Fault {
     ProcessesSkipped,
     RegionsOfSixteen,
     WrittenWithoutOffset,
+    NeighboursKept,
+    ImageEndPassed,
+    FlashLeafLeftOut,
+    ThirteenFirst,
+    ThirteenAfterTwo,
+    EmptyShares,
+    LastFlashPageFree,
+    FlashFirst,
 }
 
-pub const FAULTS: [(Fault, &str); 14] = [
+pub const FAULTS: [(Fault, &str); 22] = [
     (
         Fault::PartBeforeKept,
         "1 the part of a page before the section is not cleared",
@@ -108,28 +118,27 @@ pub const FAULTS: [(Fault, &str); 14] = [
         Fault::WrittenWithoutOffset,
         "A5 the writer's 6 has offset 0",
     ),
+    (
+        Fault::NeighboursKept,
+        "A6 the flash bytes beside a section need not be zero",
+    ),
+    (
+        Fault::ImageEndPassed,
+        "A6 a section's last flash page may end one byte past the image",
+    ),
+    (
+        Fault::FlashLeafLeftOut,
+        "A6 no leaf table for a section in flash",
+    ),
+    (Fault::ThirteenFirst, "A6 13 is tried before 1"),
+    (Fault::ThirteenAfterTwo, "A6 13 is tried after 2"),
+    (Fault::EmptyShares, "A6 an empty image in RAM draws 13"),
+    (
+        Fault::LastFlashPageFree,
+        "A6 a region may be on the page in which the image ends",
+    ),
+    (Fault::FlashFirst, "A6 flash goes first if both hold a page"),
 ];
-
-/// The RAM that is lent: where it starts and how long it is.
-#[derive(Clone, Copy)]
-pub struct Ram {
-    pub start: u32,
-    pub len: u64,
-}
-
-impl Ram {
-    pub fn pages(self) -> u64 {
-        self.len / PAGE
-    }
-
-    fn from(self) -> u64 {
-        u64::from(self.start)
-    }
-
-    fn to(self) -> u64 {
-        self.from() + self.len
-    }
-}
 
 #[derive(Clone)]
 pub struct Section {
@@ -140,7 +149,7 @@ pub struct Section {
 }
 
 impl Section {
-    fn has(&self, flag: u32) -> bool {
+    pub fn has(&self, flag: u32) -> bool {
         self.flags & flag != 0
     }
 
@@ -189,6 +198,7 @@ impl Section {
 pub struct Process {
     pub entry: u32,
     pub sections: Range<usize>,
+    pub kind: u32,
 }
 
 #[derive(Clone)]
@@ -283,15 +293,36 @@ pub fn tight([p, s, r]: [u64; 3]) -> [u64; 4] {
     ]
 }
 
-/// Refusals 1 to 11, in 01's order.
-pub fn read_board(block: &[u8], flash_len: u64, ram: Ram) -> Result<Board, Refusal> {
-    let bad_ram =
-        ram.len % PAGE != 0 || ram.pages() > 4096 || ram.from() % PAGE != 0 || ram.to() > END;
-    refuse_if(bad_ram, 1, Record::NONE)?;
+pub fn is_unfit_ram(ram: Area) -> bool {
+    ram.len % PAGE != 0 || ram.pages() > 4096 || ram.from() % PAGE != 0 || ram.to() > END
+}
+
+/// The causes of 13, by 02 (A6): "if flash's start is not a multiple of 4,096, its end passes 2^32, or it shares an address with RAM".
+pub fn causes_of_13(flash: Area, ram: Area, fault: Fault) -> [bool; 3] {
+    let shares = match fault {
+        Fault::EmptyShares => flash.from() < ram.to() && ram.from() < flash.to(),
+        _ => flash.shares(ram.from(), ram.to()),
+    };
+    [flash.from() % PAGE != 0, flash.to() > END, shares]
+}
+
+/// Refusals 1 to 11 and 13, in 01's order; 13 comes "after 1".
+pub fn read_board(block: &[u8], flash: Area, ram: Area, fault: Fault) -> Result<Board, Refusal> {
+    let one = (is_unfit_ram(ram), 1);
+    let thirteen = (causes_of_13(flash, ram, fault).contains(&true), 13);
+    let two = (block.len() < 32, 2);
+    let order = match fault {
+        Fault::ThirteenFirst => [thirteen, one, two],
+        Fault::ThirteenAfterTwo => [one, two, thirteen],
+        _ => [one, thirteen, two],
+    };
+    for (cause, number) in order {
+        refuse_if(cause, number, Record::NONE)?;
+    }
     let board = read_block(block)?;
-    check_sections(&board, flash_len)?;
+    check_sections(&board, flash.len)?;
     check_entries(&board)?;
-    check_regions(&board, ram)?;
+    check_regions(&board, flash, ram, fault)?;
     Ok(board)
 }
 
@@ -341,7 +372,8 @@ pub fn read_processes(block: &[u8], p: usize, s: usize) -> Result<Vec<Process>, 
         let record = Record::nth(i, 32, 16);
         let [entry, first, count, kind] = words::<4>(block, record.offset as usize);
         let after = sum + u64::from(count);
-        let wrong = kind != 0
+        // "6 is now for kind 2 and up, or kind 1 on the kernel."
+        let wrong = kind > u32::from(i > 0)
             || count == 0
             || u64::from(first) != sum
             || after > s as u64
@@ -350,6 +382,7 @@ pub fn read_processes(block: &[u8], p: usize, s: usize) -> Result<Vec<Process>, 
         processes.push(Process {
             entry,
             sections: sum as usize..after as usize,
+            kind,
         });
         sum = after;
     }
@@ -398,8 +431,16 @@ fn check_entries(board: &Board) -> Result<(), Refusal> {
     Ok(())
 }
 
-/// Refusal 11.
-fn check_regions(board: &Board, ram: Ram) -> Result<(), Refusal> {
+/// Refusal 11. "A region that shares one with flash draws 11": an address that holds a byte of the image.
+pub fn check_regions(
+    board: &Board,
+    mut flash: Area,
+    ram: Area,
+    fault: Fault,
+) -> Result<(), Refusal> {
+    if fault == Fault::LastFlashPageFree {
+        flash.len = flash.pages() * PAGE;
+    }
     let [_, _, list, _] = board.tight();
     let mut before = 0;
     let mut total = 0;
@@ -407,12 +448,12 @@ fn check_regions(board: &Board, ram: Ram) -> Result<(), Refusal> {
         let (start, pages) = (region.start, region.pages);
         let end = start + PAGE * pages;
         total += pages;
-        let meets_ram = ram.len > 0 && start < ram.to() && ram.from() < end;
         let wrong = start % PAGE != 0
             || pages == 0
             || end > END
             || start < before
-            || meets_ram
+            || ram.shares(start, end)
+            || flash.shares(start, end)
             || total > 4096;
         refuse_if(wrong, 11, Record::nth(i, list, 8))?;
         before = end;
@@ -420,7 +461,7 @@ fn check_regions(board: &Board, ram: Ram) -> Result<(), Refusal> {
     Ok(())
 }
 
-/// What a taken page is for. Processes are numbered from 1.
+/// What a page is for. All but the section pages that are in flash are taken from RAM. Processes are numbered from 1.
 #[derive(Clone, Copy, PartialEq, Eq, PartialOrd, Ord, Debug)]
 pub enum Use {
     Section {
@@ -517,19 +558,24 @@ struct Leaf {
     pages: Vec<u32>,
 }
 
+/// The section that is seen, if it is one.
+fn section_of(sight: &Sight) -> Option<usize> {
+    match sight {
+        Sight::Page {
+            page: Use::Section { section, .. },
+            ..
+        } => Some(*section),
+        _ => None,
+    }
+}
+
 /// One leaf table for each 4 MiB block in which the process sees something of its own, rising.
-fn leaves(view: &View, fault: Fault) -> Vec<Leaf> {
+fn leaves(view: &View, straight: &[bool], fault: Fault) -> Vec<Leaf> {
     let mut tables: Vec<Leaf> = Vec::new();
     let mut last = None;
     for (&page, sight) in view {
         let block = page >> 10;
-        let section = match sight {
-            Sight::Page {
-                page: Use::Section { section, .. },
-                ..
-            } => Some(*section),
-            _ => None,
-        };
+        let section = section_of(sight);
         let parted = match fault {
             Fault::LeafPerSection => section.is_some() && section != last,
             Fault::LeafForStack => section.is_none() && last.is_some(),
@@ -544,13 +590,48 @@ fn leaves(view: &View, fault: Fault) -> Vec<Leaf> {
         }
         last = section;
     }
+    if fault == Fault::FlashLeafLeftOut {
+        let outside = |sight: &Sight| !section_of(sight).is_some_and(|section| straight[section]);
+        let seen = view.iter().filter(|(_, sight)| outside(sight));
+        let blocks: BTreeSet<u32> = seen.map(|(page, _)| page >> 10).collect();
+        tables.retain(|table| blocks.contains(&table.block));
+    }
     tables
+}
+
+/// All uses that take a page of RAM, in 01's order. `own` has what each process sees, the kernel's sections too.
+fn order_of_pages(
+    own: &[View],
+    straight: &[bool],
+    tracker_pages: u32,
+    leaves: &[Vec<Leaf>],
+) -> Vec<Use> {
+    let mut order: Vec<Use> = Vec::new();
+    // A process's sections rise, so the order of their pages is that of the virtual pages.
+    for view in own[1..].iter().chain([&own[0]]) {
+        let in_flash = |sight: &Sight| section_of(sight).is_some_and(|i| straight[i]);
+        let in_ram = view.values().filter(|sight| !in_flash(sight));
+        order.extend(in_ram.filter_map(|sight| match sight {
+            Sight::Page { page, .. } => Some(*page),
+            Sight::Reserved => None,
+        }));
+    }
+    order.extend((0..tracker_pages).map(|part| Use::Tracker { part }));
+    order.extend([Use::ProcessList, Use::BlockCopy]);
+    for (process, tables) in (1..).zip(leaves) {
+        order.push(Use::Root { process });
+        order.extend((0..tables.len()).map(|nth| Use::Leaf { process, nth }));
+    }
+    order
 }
 
 /// What each process sees, and which pages are taken for it, in 01's order.
 pub struct Plan {
     pub board: Board,
-    ram: Ram,
+    ram: Area,
+    flash_start: u32,
+    /// By section: whether it is used straight from flash.
+    pub straight: Vec<bool>,
     fault: Fault,
     /// By process, from process 1; each without the kernel's 4 MiB.
     own: Vec<View>,
@@ -562,34 +643,32 @@ pub struct Plan {
 }
 
 impl Plan {
-    pub fn new(board: Board, ram: Ram, fault: Fault) -> Plan {
+    pub fn new(board: Board, flash: Memory, ram: Area, fault: Fault) -> Plan {
+        let straight = straight::sections(&board, flash, fault);
+        Plan::with(board, straight, flash.start, ram, fault)
+    }
+
+    /// The plan where these sections are used straight from flash.
+    pub fn with(
+        board: Board,
+        straight: Vec<bool>,
+        flash_start: u32,
+        ram: Area,
+        fault: Fault,
+    ) -> Plan {
         let last = board.processes.len() as u32;
         let tracker_pages = (ram.pages() + board.io_pages()).div_ceil(PAGE);
         let mut own: Vec<View> = (1..=last)
             .map(|process| own_view(&board, process, fault))
             .collect();
         let kernel = kernel_view(&own[0], tracker_pages as u32);
-
-        // Section pages: a process's sections rise, so their order is that of the virtual pages.
-        let mut order: Vec<Use> = Vec::new();
-        for view in own[1..].iter().chain([&own[0]]) {
-            order.extend(view.values().filter_map(|sight| match sight {
-                Sight::Page { page, .. } => Some(*page),
-                Sight::Reserved => None,
-            }));
-        }
-        order.extend((0..tracker_pages as u32).map(|part| Use::Tracker { part }));
-        order.extend([Use::ProcessList, Use::BlockCopy]);
-        own[0].clear();
         let mut all_leaves = vec![vec![Leaf {
             block: KERNEL_ENTRY,
             pages: kernel.keys().copied().collect(),
         }]];
-        all_leaves.extend(own[1..].iter().map(|view| leaves(view, fault)));
-        for (process, tables) in (1..).zip(&all_leaves) {
-            order.push(Use::Root { process });
-            order.extend((0..tables.len()).map(|nth| Use::Leaf { process, nth }));
-        }
+        all_leaves.extend(own[1..].iter().map(|view| leaves(view, &straight, fault)));
+        let order = order_of_pages(&own, &straight, tracker_pages as u32, &all_leaves);
+        own[0].clear();
         let index = order
             .iter()
             .enumerate()
@@ -598,6 +677,8 @@ impl Plan {
         Plan {
             board,
             ram,
+            flash_start,
+            straight,
             fault,
             own,
             kernel,
@@ -643,8 +724,23 @@ impl Plan {
         self.ram.pages() - 5 - self.index[&page] as u64
     }
 
+    /// The page of flash, counted from its start, that a use is on; none if it takes a page of RAM.
+    pub fn flash_page(&self, page: Use) -> Option<u64> {
+        match page {
+            Use::Section { section, page, .. } if self.straight[section] => {
+                let record = &self.board.sections[section];
+                Some(record.offset / PAGE + u64::from(page) - record.va / PAGE)
+            }
+            _ => None,
+        }
+    }
+
     pub fn physical(&self, page: Use) -> u32 {
-        (self.ram.from() / PAGE + self.ram_page(page)) as u32
+        let number = match self.flash_page(page) {
+            Some(number) => u64::from(self.flash_start) / PAGE + number,
+            None => self.ram.from() / PAGE + self.ram_page(page),
+        };
+        number as u32
     }
 
     /// The physical page number of a process's root table, found by the order of pages.
@@ -714,25 +810,35 @@ impl Plan {
         entries
     }
 
-    /// The 4,096 bytes of every taken page, in the order of taking.
-    fn contents(&self, block: &[u8], flash: &[u8]) -> Vec<Vec<u8>> {
+    /// Every use, those on pages of flash last.
+    fn uses(&self) -> Vec<Use> {
+        let mut uses = self.order.clone();
+        let seen = self.own.iter().flat_map(View::values);
+        uses.extend(seen.filter_map(|sight| match sight {
+            Sight::Page { page, .. } => self.flash_page(*page).map(|_| *page),
+            Sight::Reserved => None,
+        }));
+        uses
+    }
+
+    /// The 4,096 bytes of every use.
+    fn contents(&self, block: &[u8], flash: &[u8]) -> BTreeMap<Use, Vec<u8>> {
         let tracker = self.tracker();
-        self.order
-            .iter()
-            .map(|page| match *page {
-                Use::Section { section, page, .. } => {
-                    self.board.sections[section].page_bytes(flash, page, self.fault)
-                }
-                Use::Tracker { part } => {
-                    let from = part as usize * PAGE as usize;
-                    tracker[from..from + PAGE as usize].to_vec()
-                }
-                Use::BlockCopy => padded(block.to_vec()),
-                Use::ProcessList => word_bytes(&self.process_list()),
-                Use::Root { process } => word_bytes(&self.root_table(process)),
-                Use::Leaf { process, nth } => word_bytes(&self.leaf_table(process, nth)),
-            })
-            .collect()
+        let bytes = |page: Use| match page {
+            Use::Section { section, page, .. } => {
+                self.board.sections[section].page_bytes(flash, page, self.fault)
+            }
+            Use::Tracker { part } => {
+                let from = part as usize * PAGE as usize;
+                tracker[from..from + PAGE as usize].to_vec()
+            }
+            Use::BlockCopy => padded(block.to_vec()),
+            Use::ProcessList => word_bytes(&self.process_list()),
+            Use::Root { process } => word_bytes(&self.root_table(process)),
+            Use::Leaf { process, nth } => word_bytes(&self.leaf_table(process, nth)),
+        };
+        let uses = self.uses().into_iter();
+        uses.map(|page| (page, bytes(page))).collect()
     }
 
     /// Where the bytes that are written begin in a page: 0, but for fault 1.
@@ -760,15 +866,15 @@ fn word_bytes(list: &[u32]) -> Vec<u8> {
     padded(list.iter().flat_map(|word| word.to_le_bytes()).collect())
 }
 
-/// What a boot leaves: the plan, and the bytes of its taken pages.
+/// What a boot leaves: the plan, and the bytes that are to be seen on the page of each use, in flash too.
 pub struct Boot {
     pub plan: Plan,
-    contents: Vec<Vec<u8>>,
+    contents: BTreeMap<Use, Vec<u8>>,
 }
 
 impl Boot {
     pub fn bytes(&self, page: Use) -> &[u8] {
-        &self.contents[self.plan.index[&page]]
+        &self.contents[&page]
     }
 }
 
@@ -794,28 +900,25 @@ fn refused(Refusal(number, record): Refusal, image: Vec<u8>, fault: Fault) -> Ou
     }
 }
 
-pub fn load(block: &[u8], flash: &[u8], ram: &[u8], start: u32, fault: Fault) -> Outcome {
-    let lent = Ram {
-        start,
-        len: ram.len() as u64,
-    };
-    let mut image = ram.to_vec();
-    let board = match read_board(block, flash.len() as u64, lent) {
+pub fn load(block: &[u8], flash: Memory, ram: Memory, fault: Fault) -> Outcome {
+    let lent = ram.area();
+    let mut image = ram.bytes.to_vec();
+    let board = match read_board(block, flash.area(), lent, fault) {
         Ok(board) => board,
         Err(refusal) => return refused(refusal, image, fault),
     };
-    let plan = Plan::new(board, lent, fault);
+    let plan = Plan::new(board, flash, lent, fault);
     if plan.needed() > lent.pages() {
         if fault == Fault::CopyThenRefuse {
-            copy_while_it_lasts(&plan, flash, &mut image);
+            copy_while_it_lasts(&plan, flash.bytes, &mut image);
         }
         return refused(Refusal(12, Record::NONE), image, fault);
     }
-    let contents = plan.contents(block, flash);
-    for (page, bytes) in plan.order.iter().zip(&contents) {
+    let contents = plan.contents(block, flash.bytes);
+    for page in &plan.order {
         let at = (plan.ram_page(*page) * PAGE) as usize;
         let from = plan.written_from(*page);
-        image[at + from..at + PAGE as usize].copy_from_slice(&bytes[from..]);
+        image[at + from..at + PAGE as usize].copy_from_slice(&contents[page][from..]);
     }
     let free = lent.pages() - plan.needed();
     let answer = [

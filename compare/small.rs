@@ -1,8 +1,9 @@
 //! 01's small board: its cases P1 to P12 are the first cases of a run, and its figures are what the
-//! second program itself is held against before it is used.
+//! second program itself is held against before it is used. So are figures of a board with a section in flash.
 
 use crate::draft::{Draft, ProcessRecord, RegionRecord, SectionRecord};
-use crate::rules::{self, Fault, PAGE};
+use crate::memory::Memory;
+use crate::rules::{self, Fault, Outcome, PAGE};
 use crate::writer;
 
 pub struct Marked {
@@ -44,7 +45,8 @@ fn board() -> Draft {
             start: 0xf000_0000,
             pages: 2,
         }],
-        flash_len: 320,
+        flash: vec![0x5a; 320],
+        flash_start: 0x2000_0000,
         ram_len: 16 * PAGE,
         start: 0x4000_0000,
         ..Draft::default()
@@ -77,7 +79,7 @@ pub fn marked(number: u64) -> Option<Marked> {
             ("P6", [10, 1, 0, 48])
         }
         6 => {
-            draft.flash_len = 319;
+            draft.flash.truncate(319);
             ("P7", [9, 1, 0, 80])
         }
         7 => {
@@ -118,33 +120,45 @@ fn word(ram: &[u8], page: usize, index: usize) -> u32 {
     u32::from_le_bytes([ram[at], ram[at + 1], ram[at + 2], ram[at + 3]])
 }
 
-/// The second program against 01's own figures.
-pub fn check_rules() -> Result<(), String> {
-    for marked in (0..).map_while(marked) {
-        let draft = &marked.draft;
-        let (flash, ram) = (
-            vec![0x5a; draft.flash_len as usize],
-            vec![0xee; draft.ram_len as usize],
-        );
-        let answer = rules::load(&draft.block(), &flash, &ram, draft.start, Fault::None).answer;
-        let got = [answer[0], answer[1], answer[3], answer[5]];
-        if got != marked.expected {
-            return Err(format!(
-                "{} of 01: the rules here give {got:?}, the papers {:?}",
-                marked.name, marked.expected
-            ));
+fn load(draft: &Draft) -> Outcome {
+    let ram = Memory {
+        bytes: &vec![0xee; draft.ram_len as usize],
+        start: draft.start,
+    };
+    rules::load(&draft.block(), draft.memory_of_flash(), ram, Fault::None)
+}
+
+/// Number, place, free pages and offset against those of the papers.
+fn check_answer(name: &str, draft: &Draft, expected: [u32; 4]) -> Result<(), String> {
+    let answer = load(draft).answer;
+    let got = [answer[0], answer[1], answer[3], answer[5]];
+    if got == expected {
+        return Ok(());
+    }
+    Err(format!(
+        "{name}: the rules here give {got:?}, the papers {expected:?}"
+    ))
+}
+
+/// Page, word in it, value.
+fn check_words(name: &str, ram: &[u8], figures: &[(usize, usize, u32)]) -> Result<(), String> {
+    for &(page, index, value) in figures {
+        let got = word(ram, page, index);
+        if got != value {
+            return Err(format!("{name}, page {page}, word {index}: the rules here give {got:#x}, the papers {value:#x}"));
         }
     }
+    Ok(())
+}
+
+/// The second program against the papers' own figures.
+pub fn check_rules() -> Result<(), String> {
+    for marked in (0..).map_while(marked) {
+        check_answer(marked.name, &marked.draft, marked.expected)?;
+    }
     let draft = board();
-    let ram = rules::load(
-        &draft.block(),
-        &[0x5a; 320],
-        &[0xee; 16 * 4096],
-        draft.start,
-        Fault::None,
-    )
-    .image;
-    // Page, word in it, value: entries of A and B, and of the kernel's pages, with the flags of 02 (A1); root entries, satp words.
+    let ram = load(&draft).image;
+    // Entries of A and B, and of the kernel's pages, with the flags of 02 (A1); root entries, satp words.
     let figures = [
         (2, 16, 0x1000_2c5b),
         (2, 32, 0x1000_28d7),
@@ -163,12 +177,7 @@ pub fn check_rules() -> Result<(), String> {
         (0, 0, 0xeeee_eeee),
         (12, 0, 0xeeee_eeee),
     ];
-    for (page, index, value) in figures {
-        let got = word(&ram, page, index);
-        if got != value {
-            return Err(format!("small board, page {page}, word {index}: the rules here give {got:#x}, the papers {value:#x}"));
-        }
-    }
+    check_words("small board", &ram, &figures)?;
     let owners = |number| {
         ram[8 * 4096..8 * 4096 + 16]
             .iter()
@@ -178,10 +187,81 @@ pub fn check_rules() -> Result<(), String> {
     if (owners(0), owners(1), owners(2)) != (1, 13, 2) {
         return Err("small board: the tracker here does not count 1 free page, 13 of process 1, 2 of process 2".to_string());
     }
+    check_flash()?;
     check_writer(&draft)
 }
 
-/// "Block 120 bytes: p 2 at 32, s 3 at 64, r 1 at 112": from its records, the writer here makes it in a buffer of 121 bytes. With kind 1
+/// The small board with A in flash: process 2 is of kind 1, A is at byte 0x1020 of an image of two pages, and zeros are around it.
+fn flash_board() -> Draft {
+    let mut draft = board();
+    draft.processes[1].kind = 1;
+    draft.sections[1].offset = 0x1020;
+    draft.flash = vec![0; 0x2000];
+    draft.flash[..256].fill(0x5a);
+    draft.flash[0x1020..0x1060].fill(0x5a);
+    draft
+}
+
+/// What makes 02's rule (A6), 13 or 11 hold or not on the flash board, with number, place, free pages and offset. Two pages are free
+/// where A is in flash, one where it is copied.
+const FLASH_FIGURES: [(&str, fn(&mut Draft), [u32; 4]); 20] = [
+    ("A in flash", |_| {}, [0, 0, 2, 0]),
+    ("kind 0", |d| d.processes[1].kind = 0, [0, 0, 1, 0]),
+    ("kind 2", |d| d.processes[1].kind = 2, [6, 1, 0, 48]),
+    (
+        "kernel of kind 1",
+        |d| d.processes[0].kind = 1,
+        [6, 0, 0, 32],
+    ),
+    ("offset", |d| d.sections[1].offset = 0x1021, [0, 0, 1, 0]),
+    ("byte before", |d| d.flash[0x101f] = 1, [0, 0, 1, 0]),
+    ("page's first byte", |d| d.flash[0x1000] = 1, [0, 0, 1, 0]),
+    ("page before", |d| d.flash[0xfff] = 1, [0, 0, 2, 0]),
+    ("byte after", |d| d.flash[0x1060] = 1, [0, 0, 1, 0]),
+    ("page's last byte", |d| d.flash[0x1fff] = 1, [0, 0, 1, 0]),
+    ("a byte less", |d| d.flash.truncate(0x1fff), [0, 0, 1, 0]),
+    ("a byte more", |d| d.flash.resize(0x2001, 1), [0, 0, 2, 0]),
+    ("odd start", |d| d.flash_start += 2048, [13, 0, 0, 0]),
+    ("to 2^32", |d| d.flash_start = 0xffff_e000, [0, 0, 2, 0]),
+    ("past 2^32", |d| d.flash_start = 0xffff_f000, [13, 0, 0, 0]),
+    ("to RAM", |d| d.flash_start = 0x3fff_e000, [0, 0, 2, 0]),
+    ("into RAM", |d| d.flash_start = 0x3fff_f000, [13, 0, 0, 0]),
+    ("after RAM", |d| d.flash_start = 0x4001_0000, [0, 0, 2, 0]),
+    (
+        "region after flash",
+        |d| d.regions[0].start = 0x2000_2000,
+        [0, 0, 2, 0],
+    ),
+    (
+        "region on flash's last page",
+        |d| d.regions[0].start = 0x2000_1000,
+        [11, 0, 0, 112],
+    ),
+];
+
+/// "Its entries then name flash pages": page 0x20001 is A's, and B is on RAM page 11.
+fn check_flash() -> Result<(), String> {
+    for (name, change, expected) in FLASH_FIGURES {
+        let mut draft = flash_board();
+        change(&mut draft);
+        check_answer(&format!("board with A in flash, {name}"), &draft, expected)?;
+    }
+    let figures = [
+        (3, 16, 0x0800_045b),
+        (3, 32, 0x1000_2cd7),
+        (4, 0, 0x1000_0c01),
+        (4, 511, 0x1000_0801),
+        (2, 1020, 22),
+        (8, 3, 0x8084_0004),
+    ];
+    check_words(
+        "board with A in flash",
+        &load(&flash_board()).image,
+        &figures,
+    )
+}
+
+/// "Block 120 bytes: p 2 at 32, s 3 at 64, r 1 at 112": from its records, the writer here makes it in a buffer of 121 bytes. With kind 2
 /// in process record 1 it refuses 6 at 1, byte 48.
 fn check_writer(draft: &Draft) -> Result<(), String> {
     let block = draft.block();
@@ -198,12 +278,14 @@ fn check_writer(draft: &Draft) -> Result<(), String> {
             written.answer
         ));
     }
-    lists[0][7] = 1;
-    let refused = writer::write(&lists, &[0xee; 121], Fault::None).answer;
-    if refused != [6, 1, 0, 48] {
-        return Err(format!(
-            "small board, kind 1: the writer here gives {refused:?}"
-        ));
+    for (kind, expected) in [(1, [0, 0, 120, 0]), (2, [6, 1, 0, 48])] {
+        lists[0][7] = kind;
+        let answer = writer::write(&lists, &[0xee; 121], Fault::None).answer;
+        if answer != expected {
+            return Err(format!(
+                "small board, kind {kind}: the writer here gives {answer:?}"
+            ));
+        }
     }
     Ok(())
 }

@@ -1,4 +1,7 @@
-//! The second program's own Sv32 reader, from 01's part "Entries".
+//! The second program's own Sv32 reader, from 01's part "Entries", and 02's (A6) answer for a page's bytes.
+
+use crate::memory::Memory;
+use crate::rules::Fault;
 
 /// What the reader answers at an address. `rights`: read 1, write 2, execute 4, user 8.
 #[derive(Clone, Copy, PartialEq, Eq, Debug)]
@@ -34,26 +37,16 @@ fn writes_without_read(rights: u32) -> bool {
 }
 
 /// Entry `index` of the table in physical page `number`; none if the table is not wholly inside RAM.
-/// Addresses are whole numbers here and do not wrap.
-fn entry(ram: &[u8], start: u32, number: u32, index: u32) -> Option<u32> {
-    let table = u64::from(number) * 4096;
-    let from = table.checked_sub(u64::from(start))?;
-    if from + 4096 > ram.len() as u64 {
-        return None;
-    }
-    let at = (from + u64::from(index) * 4) as usize;
-    Some(u32::from_le_bytes([
-        ram[at],
-        ram[at + 1],
-        ram[at + 2],
-        ram[at + 3],
-    ]))
+pub fn entry(ram: Memory, number: u32, index: u32) -> Option<u32> {
+    let at = ram.place(number)? + index as usize * 4;
+    let word = &ram.bytes[at..at + 4];
+    Some(u32::from_le_bytes([word[0], word[1], word[2], word[3]]))
 }
 
 /// The walk from the root table in physical page `root` to the page that holds `address`.
-pub fn walk(ram: &[u8], start: u32, root: u32, address: u32) -> Found {
+pub fn walk(ram: Memory, root: u32, address: u32) -> Found {
     let inner = (address >> 12) & 1023;
-    let Some(word) = entry(ram, start, root, address >> 22) else {
+    let Some(word) = entry(ram, root, address >> 22) else {
         return Found::Absent;
     };
     let leaf = match decode(word) {
@@ -71,7 +64,7 @@ pub fn walk(ram: &[u8], start: u32, root: u32, address: u32) -> Found {
         }
         Entry::Pointer { number } => number,
     };
-    let Some(word) = entry(ram, start, leaf, inner) else {
+    let Some(word) = entry(ram, leaf, inner) else {
         return Found::Absent;
     };
     match decode(word) {
@@ -79,5 +72,35 @@ pub fn walk(ram: &[u8], start: u32, root: u32, address: u32) -> Found {
         Entry::Reserved => Found::Reserved,
         Entry::Page { rights, .. } if writes_without_read(rights) => Found::Absent,
         Entry::Page { rights, number } => Found::Page { rights, number },
+    }
+}
+
+/// Where the 4,096 bytes of a page are, counted from the area's first byte.
+#[derive(Clone, Copy, PartialEq, Eq, Debug)]
+pub enum Part {
+    Empty,
+    Ram(usize),
+    Flash(usize),
+}
+
+/// "As part of RAM or part of flash, uncopied, and is an empty part where no page is found or it lies wholly in neither; RAM goes first
+/// if both hold it."
+pub fn part(ram: Memory, flash: Memory, found: Found, fault: Fault) -> Part {
+    let Found::Page { number, .. } = found else {
+        return Part::Empty;
+    };
+    match (ram.place(number), flash.place(number)) {
+        (Some(_), Some(at)) if fault == Fault::FlashFirst => Part::Flash(at),
+        (Some(at), _) => Part::Ram(at),
+        (None, Some(at)) => Part::Flash(at),
+        (None, None) => Part::Empty,
+    }
+}
+
+pub fn part_bytes<'a>(ram: Memory<'a>, flash: Memory<'a>, part: Part) -> &'a [u8] {
+    match part {
+        Part::Empty => &[],
+        Part::Ram(at) => ram.page(at),
+        Part::Flash(at) => flash.page(at),
     }
 }

@@ -5,6 +5,7 @@ use crate::cases::Case;
 use crate::check::{self, compare_words};
 use crate::ffi::{self, Lent, LentWords};
 use crate::lists;
+use crate::memory::Memory;
 use crate::rng::Rng;
 use crate::rules::{self, Board, Fault, Record, Refusal, PAGE};
 
@@ -252,23 +253,35 @@ fn read_back(block: &[u8], lists: &Lists, rng: &mut Rng) -> Result<(), String> {
         rng.below(12) * PAGE,
         rng.pick(&[0, 0x4000_0000, 0x4000_0001]),
     );
-    let ram = ffi::Place {
-        start,
-        len: len as usize,
+    let flash = Memory {
+        bytes: &[],
+        start: rng.pick(&[0x2000_0000, 0x2000_0000, 0x2000_0800]),
     };
-    let want = rules::load(block, &[], &vec![0; ram.len], start, Fault::None).answer;
+    let ram = Memory {
+        bytes: &vec![0; len as usize],
+        start,
+    };
+    let want = rules::load(block, flash, ram, Fault::None).answer;
     let mut lent = Lent::new(block, rng.index(8));
-    let got = ffi::check(&mut lent, &mut Lent::new(&[], 0), ram, want.len());
+    let mut empty = Lent::new(&[], 0).at(flash.start);
+    let got = ffi::check(&mut lent, &mut empty, ram.area(), want.len());
     if (2..=6).contains(&got.0) {
         return Err(format!("rigpollen_check refuses it with {}", got.0));
     }
     compare_words("rigpollen_check", got, want.len(), want[0], &want)
 }
 
-/// The records of a block that was read. Kinds are 0, by 6.
+/// The records of a block that was read.
 fn records(board: &Board) -> Lists {
-    let process =
-        |r: &rules::Process| [r.entry, r.sections.start as u32, r.sections.len() as u32, 0];
+    let process = |r: &rules::Process| {
+        let sections = &r.sections;
+        [
+            r.entry,
+            sections.start as u32,
+            sections.len() as u32,
+            r.kind,
+        ]
+    };
     let section = |r: &rules::Section| [r.va as u32, r.size as u32, r.offset as u32, r.flags];
     let region = |r: &rules::Region| [r.start as u32, r.pages as u32];
     [

@@ -2,9 +2,10 @@
  * A ROM stub: boots the small board, prints what was loaded, and shows what
  * to do when a block is refused.
  *
- * On the chip, `ram` would be the pointer RAM_START itself, and the last step
- * a jump: satp and the entry point of process 1 as rigpollen_process gives
- * them. Here RAM is an array, and the listing stands for the jump.
+ * On the chip, `flash` and `ram` would be the pointers FLASH_START and RAM_START
+ * themselves, and the last step a jump: satp and the entry point of process 1 as
+ * rigpollen_process gives them. Here both are arrays, and the listing stands for
+ * the jump.
  */
 #include <stdio.h>
 #include <string.h>
@@ -13,6 +14,7 @@
 
 #define RAM_START     0x40000000u
 #define RAM_PAGES     16u
+#define FLASH_START   0x20000000u
 #define FLASH_BYTES   320u
 
 #define PROCESSES     2u
@@ -75,9 +77,9 @@ static uint32_t root_of(const uint8_t block[BLOCK_BYTES], uint32_t process)
 {
     uint32_t words[RIGPOLLEN_LIST_WORDS];
 
-    if (rigpollen_process(block, BLOCK_BYTES, flash, sizeof flash, sizeof ram,
-                          RAM_START, process, words, RIGPOLLEN_LIST_WORDS)
-        != RIGPOLLEN_LOADED)
+    if (rigpollen_process(block, BLOCK_BYTES, flash, sizeof flash, FLASH_START,
+                          sizeof ram, RAM_START, process, words,
+                          RIGPOLLEN_LIST_WORDS) != RIGPOLLEN_LOADED)
         return 0;
     return words[RIGPOLLEN_LIST_SATP] & RIGPOLLEN_SATP_ROOT;
 }
@@ -140,8 +142,8 @@ static uint32_t boot(const uint8_t block[BLOCK_BYTES])
 {
     uint32_t answer[RIGPOLLEN_ANSWER_WORDS];
     const uint32_t number = rigpollen_answer(block, BLOCK_BYTES, flash,
-                                             sizeof flash, ram, sizeof ram,
-                                             RAM_START, answer,
+                                             sizeof flash, FLASH_START, ram,
+                                             sizeof ram, RAM_START, answer,
                                              RIGPOLLEN_ANSWER_WORDS);
 
     if (number == RIGPOLLEN_LOADED)
@@ -174,6 +176,7 @@ int main(void)
      * again: here by the entry that answers the number alone. */
     if (memcmp(ram, ram_before, sizeof ram) != 0)
         return 1;
-    return rigpollen_load(block, sizeof block, flash, sizeof flash, ram,
-                          sizeof ram, RAM_START) == RIGPOLLEN_LOADED ? 0 : 1;
+    return rigpollen_load(block, sizeof block, flash, sizeof flash, FLASH_START,
+                          ram, sizeof ram, RAM_START)
+           == RIGPOLLEN_LOADED ? 0 : 1;
 }

@@ -2,10 +2,11 @@
  * Rigpollen: the boot loader's entries for C and C++.
  *
  * The loader reads a boot block, checks it, copies the sections of every
- * process from flash into RAM, and builds the Sv32 page tables, the page
- * tracker and the process list there. It either does all of this or refuses,
- * gives a number, and leaves RAM as it came. The reader walks page tables by
- * the Sv32 rules. The writer makes a boot block from lists of records.
+ * process from flash into RAM, or maps them where they are in flash, and
+ * builds the Sv32 page tables, the page tracker and the process list in RAM.
+ * It either does all of this or refuses, gives a number, and leaves RAM as it
+ * came. The reader walks page tables by the Sv32 rules. The writer makes a
+ * boot block from lists of records.
  *
  * Link with librigpollen.a for your machine: x86-64, or bare RV32 (ilp32,
  * rv32imac or rv32ima). The linker must supply memcpy, memmove and memset as
@@ -14,9 +15,9 @@
  * they must not be given, if the areas are as said here.
  *
  * Areas. Each area is a pointer and a length. The length of `block`, `flash`,
- * `ram` and `buffer` counts bytes, that of `answer`, `words`, `page`,
- * `processes`, `sections` and `regions` counts 32-bit words. Lengths have 64 bits on both machines: a declaration with size_t
- * would be wrong on RV32.
+ * `ram`, `buffer` and `bytes` counts bytes, that of `answer`, `words`, `page`,
+ * `processes`, `sections` and `regions` counts 32-bit words. Lengths have 64
+ * bits on both machines: a declaration with size_t would be wrong on RV32.
  *   - An area with `const` is only read. It may share bytes with another area
  *     with `const`.
  *   - An area without `const` must not share a byte with any other area of
@@ -32,8 +33,9 @@
  *     alignment.
  *
  * Addresses. `ram` is where the caller reaches RAM, `ram_start` is RAM's
- * physical address as it goes into the tables. On the chip, before paging is
- * on, they are the same number.
+ * physical address as it goes into the tables; so are `flash` and
+ * `flash_start` for flash. On the chip, before paging is on, the pointer and
+ * the start are the same number.
  */
 #ifndef RIGPOLLEN_H
 #define RIGPOLLEN_H
@@ -52,7 +54,7 @@ extern "C" {
  * interrupt on the same stack comes on top. (tools/rv32-stack prints this
  * figure, and what each entry takes.)
  */
-#define RIGPOLLEN_RV32_STACK_BYTES 5040u
+#define RIGPOLLEN_RV32_STACK_BYTES 5264u
 
 /* ------------------------------------------------------------ the loader */
 
@@ -62,23 +64,27 @@ extern "C" {
  * byte offset in the block, 0 where the place is always 0: with p processes
  * and s sections, process record i is at 32 + 16 i, section record n at
  * 32 + 16 p + 16 n, region record i at 32 + 16 p + 16 s + 8 i. The first in
- * the order of the numbers wins, with 7, 8 and 9 tried together for one
+ * the order of this table wins, with 7, 8 and 9 tried together for one
  * section before the next.
  *
  *  No.  Given exactly when                                           Place
  *   0   (no refusal: the board is loaded)                            0
  *   1   RAM is not whole pages or over 4,096 pages, its start is     0
  *       not a multiple of 4,096, or its end passes 2^32
+ *  13   flash's start is not a multiple of 4,096, its end passes     0
+ *       2^32, or it shares an address with RAM (with an empty image
+ *       or empty RAM there is none to share)
  *   2   the block is under 32 bytes                                  0
  *   3   the format is not 1                                          0
  *   4   the process count is not 1 to 16, the section count is       0
  *       not 1 to 64, or the region count is over 32
  *   5   an offset is not the tight one, or the length field or the   0
  *       block's true length is not the tight length
- *   6   a process's kind is not 0, its section count is 0, its       process
- *       first section is not the sum of the counts before it, its    record
- *       sum passes the section count, or the last sum is not the
- *       section count (then the last record)
+ *   6   a process's kind is over 1, or is 1 and it is the kernel,    process
+ *       its section count is 0, its first section is not the sum     record
+ *       of the counts before it, its sum passes the section count,
+ *       or the last sum is not the section count (then the last
+ *       record)
  *   7   a section's size is 0, a flag above 4 is set, writable and   section
  *       executable are both set, or NOCOPY has a flash offset        record
  *       other than 0
@@ -91,8 +97,8 @@ extern "C" {
  *       process                                                      record
  *  11   a region's start is not a multiple of 4,096, its pages are   region
  *       0, it ends past 2^32, starts below the end of the region     record
- *       before, shares an address with RAM, or brings the I/O total
- *       over 4,096
+ *       before, shares an address with RAM or with flash, or brings
+ *       the I/O total over 4,096
  *  12   the pages needed exceed the pages of RAM                     0
  */
 #define RIGPOLLEN_LOADED                 0u
@@ -108,6 +114,7 @@ extern "C" {
 #define RIGPOLLEN_ENTRY_POINT_OUTSIDE   10u
 #define RIGPOLLEN_REGION_UNFIT          11u
 #define RIGPOLLEN_RAM_TOO_SMALL         12u
+#define RIGPOLLEN_FLASH_UNFIT           13u
 
 /* Where the words of an answer lie. */
 #define RIGPOLLEN_ANSWER_NUMBER  0 /* 0, or the refusal's number             */
@@ -124,12 +131,21 @@ extern "C" {
  *   block      the boot block, exactly its length: bytes after the last
  *              record are refused (5)
  *   flash      the flash image; section records hold offsets into it
+ *   flash_start
+ *              flash's physical address, a multiple of 4,096
  *   ram        the whole of RAM, at most 4,096 pages. The top four pages
  *              are lost to all (stack and guard of the ROM itself) and keep
  *              their bytes; the rest is taken from the top down.
  *   ram_start  RAM's physical address, a multiple of 4,096
  *
  * Returns 0, or the number of the refusal.
+ *
+ * Straight from flash. In a user process of kind 1, a section with neither
+ * NOCOPY nor writable takes no RAM, and its table entries name pages of flash,
+ * if its flash offset and its address agree modulo 4,096, all flash pages that
+ * hold a byte of it lie wholly in the image, and all other bytes of those
+ * pages are 0, those of another section too. Otherwise it is copied. Two
+ * processes may be given the same page of flash; neither can write it.
  *
  * What is left in RAM: after 0, every taken page holds what the rules put
  * there and zero elsewhere, and pages not taken keep their bytes. After a
@@ -147,6 +163,7 @@ extern "C" {
  */
 uint32_t rigpollen_load(const uint8_t *block, uint64_t block_length,
                         const uint8_t *flash, uint64_t flash_length,
+                        uint32_t flash_start,
                         uint8_t *ram, uint64_t ram_length,
                         uint32_t ram_start);
 
@@ -162,6 +179,7 @@ uint32_t rigpollen_load(const uint8_t *block, uint64_t block_length,
  */
 uint32_t rigpollen_answer(const uint8_t *block, uint64_t block_length,
                           const uint8_t *flash, uint64_t flash_length,
+                          uint32_t flash_start,
                           uint8_t *ram, uint64_t ram_length,
                           uint32_t ram_start,
                           uint32_t *answer, uint64_t answer_length);
@@ -178,6 +196,7 @@ uint32_t rigpollen_answer(const uint8_t *block, uint64_t block_length,
  */
 uint32_t rigpollen_check(const uint8_t *block, uint64_t block_length,
                          const uint8_t *flash, uint64_t flash_length,
+                         uint32_t flash_start,
                          uint64_t ram_length, uint32_t ram_start,
                          uint32_t *answer, uint64_t answer_length);
 
@@ -207,6 +226,7 @@ uint32_t rigpollen_check(const uint8_t *block, uint64_t block_length,
  */
 uint32_t rigpollen_process(const uint8_t *block, uint64_t block_length,
                            const uint8_t *flash, uint64_t flash_length,
+                           uint32_t flash_start,
                            uint64_t ram_length, uint32_t ram_start,
                            uint32_t process,
                            uint32_t *words, uint64_t words_length);
@@ -251,6 +271,28 @@ uint32_t rigpollen_walk(const uint8_t *ram, uint64_t ram_length,
                         uint32_t ram_start,
                         uint32_t root, uint32_t address,
                         uint32_t *page, uint64_t page_length);
+
+/*
+ * The bytes of the page at an address.
+ *
+ *   ram, ram_start      as for rigpollen_walk: tables are looked for in RAM
+ *                       alone
+ *   flash, flash_start  any area too; it may have addresses of RAM
+ *   root, address       as for rigpollen_walk
+ *   bytes               gets the page's 4,096 bytes, as many as fit; bytes
+ *                       after them stay as they are, and so does all of it
+ *                       where the length is 0. They are RAM's if the page is
+ *                       wholly in RAM, else flash's if it is wholly in flash.
+ *
+ * Returns 4,096, where fewer fit too; else 0: there is no page, or it lies
+ * wholly in neither.
+ */
+uint64_t rigpollen_page(const uint8_t *ram, uint64_t ram_length,
+                        uint32_t ram_start,
+                        const uint8_t *flash, uint64_t flash_length,
+                        uint32_t flash_start,
+                        uint32_t root, uint32_t address,
+                        uint8_t *bytes, uint64_t bytes_length);
 
 /* ------------------------------------------------------------ the writer */
 
@@ -333,7 +375,7 @@ uint32_t rigpollen_write_block(const uint32_t *processes,
  * The tracker has one byte for each RAM page, rising, then one for each I/O
  * page of the regions in record order: 0 is free, else the number of the
  * process that owns the page. Pages of sections belong to their process, all
- * other taken pages to process 1.
+ * other taken pages to process 1. Pages of flash have no byte.
  *
  * The process list has three words for each process, from process 1 on, as
  * rigpollen_process gives them.

@@ -174,6 +174,9 @@ static int next_is(const struct recorded *recorded, uint32_t kind)
 
 static unsigned long differences;
 
+/* Virtual pages of which U loaded just flash's bytes. */
+static uint32_t flash_pages;
+
 /* True for the first ten. */
 static int differs(void)
 {
@@ -268,6 +271,8 @@ static void compare_pages(const struct expectation *expectation,
             bytes_differ(process, page, mode, bytes, (const uint8_t *)loaded);
         else if (!loaded && (expected >> 8 & 0xFF) == CAUSE_NONE)
             fail("a page that can be loaded has no bytes in the records");
+        else if (loaded && mode == MODE_U && own->rights[page] & SEEN_FLASH)
+            flash_pages++;
         if (own->rights[page] != SEEN_NOTHING)
             bytes += PAGE_BYTES;
     }
@@ -329,8 +334,8 @@ static void print_agreement(const char *name,
     for (uint32_t q = 0; q < processes; q++)
         seen += expectation->process[q]->seen;
     printf("board %s: %u processes, %u pages of RAM, %u virtual pages seen,"
-           " %llu probes agree, %u words changed\n", name, processes,
-           expectation->head.pages, seen,
+           " %u of them in flash, %llu probes agree, %u words changed\n", name,
+           processes, expectation->head.pages, seen, flash_pages,
            3ull * MODES * VIRTUAL_PAGES * processes, changed);
 }
 

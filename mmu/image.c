@@ -3,10 +3,10 @@
  *
  * Loads a board with the library and writes two files: RAM, the memory of the
  * machine that is to be started, with the loaded board and the stub's orders
- * in it; EXPECTED, what 01's rules give every process at every virtual page.
- * BOARD is `small` or a seed. With ENTRY (0 to 1,023) and BIT (0 to 31), one
- * bit is then flipped in RAM: in that entry of process 2's leaf table for root
- * slot 0.
+ * in it, and flash where the machine has memory for it; EXPECTED, what 01's
+ * rules give every process at every virtual page. BOARD is `small`, `flash` or
+ * a seed. With ENTRY (0 to 1,023) and BIT (0 to 31), one bit is then flipped in
+ * RAM: in that entry of process 2's leaf table for root slot 0.
  */
 #include <stdio.h>
 #include <stdlib.h>
@@ -59,7 +59,8 @@ static uint8_t *load(const struct board *board, const struct plan *plan)
         fail("no memory");
     fill_random(ram, length, 2);
     if (rigpollen_answer(block, block_length, board->flash, board->flash_length,
-                         ram, length, IMAGE, answer, RIGPOLLEN_ANSWER_WORDS)) {
+                         board->flash_start, ram, length, IMAGE, answer,
+                         RIGPOLLEN_ANSWER_WORDS)) {
         fprintf(stderr, "image: refused %u at %u, byte %u\n",
                 answer[RIGPOLLEN_ANSWER_NUMBER], answer[RIGPOLLEN_ANSWER_PLACE],
                 answer[RIGPOLLEN_ANSWER_OFFSET]);
@@ -95,6 +96,20 @@ static void put_at(FILE *file, uint32_t address, const void *bytes,
     write_all(file, bytes, length);
 }
 
+/* Flash to the end of its last page; the small board's is not in the machine's
+ * memory. */
+static void write_flash(FILE *file, const struct board *board)
+{
+    static uint8_t bytes[MAX_FLASH];
+    const uint32_t pages = (board->flash_length + PAGE_BYTES - 1) / PAGE_BYTES;
+
+    if (board->flash_start < FLASH)
+        return;
+    for (uint32_t i = 0; i < pages * PAGE_BYTES; i++)
+        bytes[i] = machine_flash(board, i);
+    put_at(file, board->flash_start, bytes, pages * PAGE_BYTES);
+}
+
 static void write_ram(const char *name, const struct board *board,
                       const struct plan *plan, const uint8_t *ram)
 {
@@ -105,6 +120,7 @@ static void write_ram(const char *name, const struct board *board,
         orders.satp[q] = satp_word(plan, q);
     put_at(file, ORDERS, &orders, sizeof orders);
     put_at(file, IMAGE, ram, (size_t)board->pages * PAGE_BYTES);
+    write_flash(file, board);
     put_at(file, RAM_BASE + RAM_BYTES - 1, "", 1);
     finish(file);
 }
@@ -163,6 +179,8 @@ int main(int argc, char **argv)
         fail("usage: image BOARD RAM EXPECTED [ENTRY BIT]");
     if (strcmp(argv[1], "small") == 0)
         small_board(&board);
+    else if (strcmp(argv[1], "flash") == 0)
+        flash_board(&board);
     else
         generated_board(&board, strtoull(argv[1], NULL, 0));
     make_plan(&board, &plan);

@@ -10,6 +10,8 @@
 #define RAM_BYTES      0x10000000 /* 256 MiB, mostly holes in the file */
 #define ORDERS         0x80400000 /* struct orders, from the host */
 #define IMAGE          0x80800000 /* the loaded board's RAM */
+#define FLASH          0x82000000 /* a board's flash starts here or above it, */
+#define FLASH_END      0x83000000 /* and ends at the latest here */
 #define RECORDS        0x84000000 /* struct head, then records */
 #define RECORDS_END    0x8F000000
 

@@ -24,6 +24,33 @@ static uint32_t page_count(const struct section *section)
     return last_page(section) - first_page(section) + 1;
 }
 
+/* ----------------------------------------------------- straight from flash */
+
+static int all_zero(const struct board *board, uint32_t from, uint32_t end)
+{
+    while (from < end && board->flash[from] == 0)
+        from++;
+    return from == end;
+}
+
+/* 02, A6: in a user process of kind 1, a section with neither NOCOPY nor
+ * writable whose flash offset and address agree modulo 4,096, whose flash
+ * pages lie wholly in the image, and beside which they are zero. */
+static int straight_from_flash(const struct board *board, uint32_t process,
+                               const struct section *section)
+{
+    const uint32_t offset = section->offset, end = offset + section->size;
+    const uint32_t first = offset / PAGE_BYTES * PAGE_BYTES;
+    const uint32_t last = (end - 1) / PAGE_BYTES * PAGE_BYTES;
+
+    return process != 0 && board->process[process].kind == 1
+           && !(section->flags & (NOCOPY | WRITABLE))
+           && offset % PAGE_BYTES == section->address % PAGE_BYTES
+           && last + PAGE_BYTES <= board->flash_length
+           && all_zero(board, first, offset)
+           && all_zero(board, end, last + PAGE_BYTES);
+}
+
 /* ----------------------------------------------------- the order of pages */
 
 static uint32_t tracker_pages(const struct board *board)
@@ -64,8 +91,12 @@ static void plan_sections(const struct board *board, uint32_t process,
 {
     const struct process *record = &board->process[process];
 
-    for (uint32_t i = record->first; i < record->first + record->count; i++)
-        plan->section[i] = take(next, page_count(&board->section[i]));
+    for (uint32_t i = record->first; i < record->first + record->count; i++) {
+        const struct section *section = &board->section[i];
+
+        plan->section[i] = straight_from_flash(board, process, section)
+                           ? NO_PAGE : take(next, page_count(section));
+    }
 }
 
 static void plan_tables(const struct board *board, uint32_t process,
@@ -152,6 +183,18 @@ static void section_bytes(const struct board *board,
     }
 }
 
+/* A page of flash. */
+static void flash_bytes(const struct board *board,
+                        const struct section *section, uint32_t page,
+                        uint8_t bytes[PAGE_BYTES])
+{
+    const uint32_t first = section->offset / PAGE_BYTES;
+    const uint32_t flash_page = first + (page - first_page(section));
+
+    for (uint32_t i = 0; i < PAGE_BYTES; i++)
+        bytes[i] = machine_flash(board, flash_page * PAGE_BYTES + i);
+}
+
 /* The owner of a RAM page: 0 for a free one. */
 static uint8_t owner(const struct board *board, const struct plan *plan,
                      uint32_t ram_page)
@@ -160,7 +203,7 @@ static uint8_t owner(const struct board *board, const struct plan *plan,
         const struct process *record = &board->process[q];
 
         for (uint32_t i = record->first; i < record->first + record->count; i++)
-            if (ram_page <= plan->section[i]
+            if (plan->section[i] != NO_PAGE && ram_page <= plan->section[i]
                 && plan->section[i] - ram_page < page_count(&board->section[i]))
                 return (uint8_t)(q + 1);
     }
@@ -211,8 +254,9 @@ static uint32_t section_rights(const struct section *section)
 }
 
 /* The pages of a process's own sections, without the user right. */
-static uint32_t seen_section(const struct board *board, uint32_t process,
-                             uint32_t page, uint8_t bytes[PAGE_BYTES])
+static uint32_t seen_section(const struct board *board, const struct plan *plan,
+                             uint32_t process, uint32_t page,
+                             uint8_t bytes[PAGE_BYTES])
 {
     const struct process *record = &board->process[process];
 
@@ -221,6 +265,10 @@ static uint32_t seen_section(const struct board *board, uint32_t process,
 
         if (page < first_page(section) || page > last_page(section))
             continue;
+        if (plan->section[i] == NO_PAGE) {
+            flash_bytes(board, section, page, bytes);
+            return section_rights(section) | SEEN_FLASH;
+        }
         section_bytes(board, section, page, bytes);
         return section_rights(section);
     }
@@ -242,7 +290,7 @@ static uint32_t seen_kernel(const struct board *board, const struct plan *plan,
         list_bytes(board, plan, bytes);
         return SEEN_PAGE | SEEN_READ;
     }
-    return seen_section(board, 0, page, bytes);
+    return seen_section(board, plan, 0, page, bytes);
 }
 
 uint32_t seen(const struct board *board, const struct plan *plan,
@@ -254,6 +302,6 @@ uint32_t seen(const struct board *board, const struct plan *plan,
         return seen_kernel(board, plan, page, bytes);
     if (process == 0)
         return SEEN_NOTHING;
-    answer = seen_section(board, process, page, bytes);
+    answer = seen_section(board, plan, process, page, bytes);
     return answer == SEEN_NOTHING ? answer : answer | SEEN_USER;
 }

@@ -1,7 +1,7 @@
 /*
- * 01's order of pages and 01's answer to what each process sees, worked out
- * from the board's records alone: no table is read here, and the library is
- * not called.
+ * 01's order of pages and 01's answer to what each process sees, with 02's
+ * sections straight from flash, worked out from the board's records and flash
+ * alone: no table is read here, and the library is not called.
  */
 #ifndef PLAN_H
 #define PLAN_H
@@ -14,7 +14,8 @@
 /* RAM pages, counted from RAM's start. */
 struct plan {
     uint32_t section[MAX_SECTIONS]; /* of a section's first page; the next
-                                       ones lie below */
+                                       ones lie below. NO_PAGE where it is
+                                       used straight from flash */
     uint32_t tracker, tracker_pages; /* likewise */
     uint32_t list, block;
     uint32_t root[MAX_PROCESSES];
@@ -35,9 +36,10 @@ uint32_t satp_word(const struct plan *plan, uint32_t process);
 #define SEEN_WRITE   2u
 #define SEEN_EXECUTE 4u
 #define SEEN_USER    8u
+#define SEEN_FLASH   0x10u /* no right: the page is one of flash */
 
 /* Processes count from 0 here, as their records do. For a page, `bytes` gets
- * its contents. */
+ * its contents, for one of flash those that the machine has. */
 uint32_t seen(const struct board *board, const struct plan *plan,
               uint32_t process, uint32_t page, uint8_t bytes[PAGE_BYTES]);
 

@@ -1,8 +1,9 @@
 /*
  * Tries cases of the second program on the bare machine: DATA has the file
  * that `compare --write` wrote (compare/case_file.rs has its form). Every
- * entry's answer, all of RAM, the walks, the writer's buffer, and what lies
- * around each lent area are compared. Ends with 1 if anything differs.
+ * entry's answer, all of RAM, the walks, the bytes of pages, the writer's
+ * buffer, and what lies around each lent area are compared. Ends with 1 if
+ * anything differs.
  *
  * The file's second word is 0, or a damage that this program does itself, as a
  * wrong library would: a check of the check.
@@ -16,11 +17,12 @@
 #define ROOM        8u           /* words lent at most */
 #define AROUND      4u           /* words before and after them */
 #define PATTERN     0xC3A50F00u
+#define BESIDE      64u          /* bytes before and after a page's */
 #define SHOWN       20u          /* differences that are told */
 #define LISTS       3u           /* process, section and region records */
 
 enum damage { NONE, PAST_RAM, BEFORE_RAM, BLOCK, FLASH, PAST_WORDS, STACK,
-              PAST_BUFFER, LIST };
+              PAST_BUFFER, LIST, PAGE_BYTE, PAST_PAGE };
 
 /* An area to lend, with guard bytes on both sides, and what it must hold. */
 struct area {
@@ -35,6 +37,7 @@ struct words {
 /* What a case says, as it stands in the file. */
 struct head {
     uint32_t number, start, ram_length, block_length, flash_length;
+    uint32_t flash_start;
     uint32_t answer[RIGPOLLEN_ANSWER_WORDS];
 };
 
@@ -44,6 +47,15 @@ struct process {
 
 struct walk {
     uint32_t root, address, number, words[RIGPOLLEN_WALK_WORDS];
+    uint32_t length, area, offset; /* the page's bytes: where they are */
+};
+
+enum page_area { NO_AREA, RAM_AREA, FLASH_AREA };
+
+/* RAM and flash for the reader. */
+struct memory {
+    struct area ram, flash;
+    uint32_t ram_start, flash_start;
 };
 
 struct writing {
@@ -52,8 +64,8 @@ struct writing {
 };
 
 static enum damage damage;
-static uint32_t at_case, loads, boots, walks, processes, writings, differences,
-                deepest;
+static uint32_t at_case, loads, boots, walks, ram_pages, flash_pages, processes,
+                writings, differences, deepest;
 
 static void differ(const char *entry, const char *what, uint32_t expected,
                    uint32_t found)
@@ -237,8 +249,8 @@ static void try_answer(const struct head *head, struct area block,
 
     stack_mark();
     found = rigpollen_answer(block.bytes, block.length, flash.bytes,
-                             flash.length, ram.bytes, ram.length, head->start,
-                             answer, room);
+                             flash.length, head->flash_start, ram.bytes,
+                             ram.length, head->start, answer, room);
     note_stack(stack_used());
     do_damage(ram, &words);
     if (found != head->answer[0])
@@ -255,7 +267,8 @@ static void try_load(const struct head *head, struct area block,
 
     stack_mark();
     found = rigpollen_load(block.bytes, block.length, flash.bytes, flash.length,
-                           ram.bytes, ram.length, head->start);
+                           head->flash_start, ram.bytes, ram.length,
+                           head->start);
     if (damage == STACK)
         stack_pointer()[-(int)RIGPOLLEN_RV32_STACK_BYTES - 4] = 0;
     note_stack(stack_used());
@@ -276,8 +289,8 @@ static void try_check(const struct head *head, struct area block,
 
     stack_mark();
     found = rigpollen_check(block.bytes, block.length, flash.bytes,
-                            flash.length, head->ram_length, head->start,
-                            answer, room);
+                            flash.length, head->flash_start, head->ram_length,
+                            head->start, answer, room);
     note_stack(stack_used());
     if (found != head->answer[0])
         differ("rigpollen_check", "number", head->answer[0], found);
@@ -295,8 +308,9 @@ static void try_process(const struct head *head, struct area block,
 
     stack_mark();
     found = rigpollen_process(block.bytes, block.length, flash.bytes,
-                              flash.length, head->ram_length, head->start,
-                              process->process, list, room);
+                              flash.length, head->flash_start,
+                              head->ram_length, head->start, process->process,
+                              list, room);
     note_stack(stack_used());
     if (found != process->number)
         differ("rigpollen_process", "number", process->number, found);
@@ -307,7 +321,7 @@ static void try_process(const struct head *head, struct area block,
 
 /* ------------------------------------------------------------- the reader */
 
-static void try_walk(struct area ram, uint32_t start, const struct walk *walk)
+static void try_walk(const struct memory *memory, const struct walk *walk)
 {
     struct words words;
     uint32_t *const page = make_words(&words);
@@ -316,8 +330,9 @@ static void try_walk(struct area ram, uint32_t start, const struct walk *walk)
 
     if (walks % 16 == 0)
         stack_mark();
-    found = rigpollen_walk(ram.bytes, ram.length, start, walk->root,
-                           walk->address, page, room);
+    found = rigpollen_walk(memory->ram.bytes, memory->ram.length,
+                           memory->ram_start, walk->root, walk->address, page,
+                           room);
     if (walks % 16 == 0)
         note_stack(stack_used());
     if (found != walk->number)
@@ -328,28 +343,89 @@ static void try_walk(struct area ram, uint32_t start, const struct walk *walk)
     walks++;
 }
 
-static const uint8_t *try_walks(struct area ram, uint32_t start,
+/* `put` bytes of the page at the start of the area, and all else as it was. */
+static void check_page_bytes(const struct memory *memory,
+                             const struct walk *walk, struct area area,
+                             uint32_t put)
+{
+    const struct area from = walk->area == RAM_AREA ? memory->ram
+                                                    : memory->flash;
+
+    area.bytes[0] ^= damage == PAGE_BYTE && put > 0;
+    area.bytes[put] ^= damage == PAST_PAGE;
+    check_bytes("rigpollen_page", "byte of the page", from.bytes + walk->offset,
+                area.bytes, put);
+    check_guard("rigpollen_page", "byte before the page's", area.bytes - BESIDE,
+                BESIDE);
+    check_guard("rigpollen_page", "byte after the page's", area.bytes + put,
+                area.length - put);
+}
+
+static void try_page(const struct memory *memory, const struct walk *walk)
+{
+    static uint8_t all[BESIDE + 4 + PAGE + BESIDE];
+    static const uint32_t rooms[] = { PAGE, 0, PAGE - 1, 1, PAGE + 1, 5 };
+    const uint32_t room = rooms[walks % 6], shift = walks / 6 % 4;
+    const struct area area = { all + BESIDE + shift, PAGE + BESIDE };
+    uint64_t found;
+
+    memset(all, GUARD_BYTE, sizeof all);
+    if (walks % 16 == 0)
+        stack_mark();
+    found = rigpollen_page(memory->ram.bytes, memory->ram.length,
+                           memory->ram_start, memory->flash.bytes,
+                           memory->flash.length, memory->flash_start,
+                           walk->root, walk->address, area.bytes, room);
+    if (walks % 16 == 0)
+        note_stack(stack_used());
+    if (found != walk->length)
+        differ("rigpollen_page", "length", walk->length, (uint32_t)found);
+    check_page_bytes(memory, walk, area, walk->area == NO_AREA ? 0
+                                         : room < PAGE ? room : PAGE);
+    ram_pages += walk->area == RAM_AREA;
+    flash_pages += walk->area == FLASH_AREA;
+}
+
+static const uint8_t *try_walks(const struct memory *memory,
                                 const uint8_t *next)
 {
     const uint32_t count = get_word(next);
     const struct walk *walk = (const struct walk *)(next + 4);
 
-    for (uint32_t i = 0; i < count; i++)
-        try_walk(ram, start, walk++);
+    for (uint32_t i = 0; i < count; i++, walk++) {
+        try_page(memory, walk);
+        try_walk(memory, walk);
+    }
     return (const uint8_t *)walk;
 }
 
-/* Tables that no loader writes. */
+/* An area's start, length and bytes; answers the place after them. */
+static const uint8_t *read_area(const uint8_t *next, uint8_t **room,
+                                uint32_t *start, struct area *area)
+{
+    const uint32_t length = get_word(next + 4);
+
+    *start = get_word(next);
+    *area = lend(room, next + 8, length, at_case % 4);
+    return next + 8 + whole_words(length);
+}
+
+/* Tables that no loader writes, with any RAM and any flash. */
 static const uint8_t *try_odd_tables(const uint8_t *next, uint8_t *room)
 {
-    const uint32_t start = get_word(next), length = get_word(next + 4);
-    const uint8_t *const bytes = next + 8;
-    const struct area ram = make_area(&room, length, at_case % 4);
+    const uint8_t *const ram_bytes = next + 8, *flash_bytes;
+    struct memory memory;
 
-    memcpy(ram.bytes, bytes, length);
-    next = try_walks(ram, start, bytes + whole_words(length));
-    check_bytes("rigpollen_walk", "byte of RAM", bytes, ram.bytes, length);
-    check_guards("rigpollen_walk", ram);
+    next = read_area(next, &room, &memory.ram_start, &memory.ram);
+    flash_bytes = next + 8;
+    next = read_area(next, &room, &memory.flash_start, &memory.flash);
+    next = try_walks(&memory, next);
+    check_bytes("the reader", "byte of RAM", ram_bytes, memory.ram.bytes,
+                memory.ram.length);
+    check_bytes("the reader", "byte of flash", flash_bytes, memory.flash.bytes,
+                memory.flash.length);
+    check_guards("the reader", memory.ram);
+    check_guards("the reader", memory.flash);
     return next;
 }
 
@@ -483,7 +559,8 @@ static const uint8_t *try_case(const uint8_t *next)
 
     make_dirty(ram, head->number);
     try_answer(head, block, flash, ram);
-    try_walks(ram, head->start, tables);
+    try_walks(&(struct memory){ ram, flash, head->start, head->flash_start },
+              tables);
     check_ram("rigpollen_answer", head->number, ram, after);
     make_dirty(ram, head->number);
     try_load(head, block, flash, ram);
@@ -505,8 +582,9 @@ int main(void)
     if (deepest > RIGPOLLEN_RV32_STACK_BYTES)
         differ("all entries", "bytes of stack", RIGPOLLEN_RV32_STACK_BYTES,
                deepest);
-    print("%u cases, %u boot, %u loads, %u processes, %u walks, %u writings, "
-          "stack %u bytes, %u differences\n", cases, boots, loads, processes,
-          walks, writings, deepest, differences);
+    print("%u cases, %u boot, %u loads, %u processes, %u walks, %u pages of "
+          "RAM and %u of flash, %u writings, stack %u bytes, %u differences\n",
+          cases, boots, loads, processes, walks, ram_pages, flash_pages,
+          writings, deepest, differences);
     return cases == 0 || differences != 0;
 }

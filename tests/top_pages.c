@@ -9,8 +9,10 @@
 
 #include "rigpollen.h"
 
-#define PAGES 16u
-#define TOP    4u
+#define PAGES       16u
+#define TOP          4u
+#define RAM_START   0x40000000u
+#define FLASH_START 0x20000000u
 
 static const uint32_t words[30] = {
     1, 120, 2, 32, 3, 64, 1, 112,
@@ -38,10 +40,11 @@ int main(void)
     }
     for (size_t i = 0; i < sizeof block; i++)
         block[i] = (uint8_t)(words[i / 4] >> 8 * (i % 4));
-    if (rigpollen_answer(block, sizeof block, flash, sizeof flash, ram, length,
-                         0x40000000u, answer, RIGPOLLEN_ANSWER_WORDS)
+    if (rigpollen_answer(block, sizeof block, flash, sizeof flash, FLASH_START,
+                         ram, length, RAM_START, answer, RIGPOLLEN_ANSWER_WORDS)
         != RIGPOLLEN_LOADED)
         return 1;
-    return rigpollen_load(block, sizeof block, flash, 319, ram, length,
-                          0x40000000u) == RIGPOLLEN_SECTION_PAST_FLASH ? 0 : 1;
+    return rigpollen_load(block, sizeof block, flash, 319, FLASH_START, ram,
+                          length, RAM_START)
+           == RIGPOLLEN_SECTION_PAST_FLASH ? 0 : 1;
 }

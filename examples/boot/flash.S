@@ -1,6 +1,7 @@
 /*
  * The flash chip: the boot block (docs/BLOCK.md), then what its sections are
- * copied from. Flash offsets count from the block's first byte.
+ * copied from, or used from where they are. Flash offsets count from the
+ * block's first byte, which is the chip's.
  */
 #include "board.h"
 
@@ -29,7 +30,7 @@ block:
 processes: /* entry point, first section, section count, kind */
     .word KERNEL_CODE, 0, 2, 0
     .word USER_CODE, 2, 3, 0
-    .word USER_CODE, 5, 3, 0
+    .word USER_CODE, 5, 3, 1
 
 sections: /* virtual address, size, flash offset, flags */
     .word KERNEL_CODE, kernel_end - kernel, kernel - block, KERNEL_FLAGS
@@ -54,12 +55,17 @@ kernel_end:
 user_2:
     .incbin "user_2.bin"
 user_2_end:
-user_3:
-    .incbin "user_3.bin"
-user_3_end:
 two:
     .asciz "two"
 two_end:
+
+/* Process 3 is of kind 1. What it does not write has pages of its own here,
+ * zero elsewhere, and addresses that start a page too: so it takes no RAM. */
+    .balign 4096, 0
+user_3:
+    .incbin "user_3.bin"
+user_3_end:
+    .balign 4096, 0
 three:
     .asciz "three"
 three_end:

@@ -41,7 +41,7 @@ static uint32_t block_length(void)
 /* What a process starts with; 0, or the reason why there is nothing. */
 static uint32_t process(uint32_t number, uint32_t words[RIGPOLLEN_LIST_WORDS])
 {
-    return rigpollen_process(flash, block_length(), flash, FLASH_BYTES,
+    return rigpollen_process(flash, block_length(), flash, FLASH_BYTES, FLASH,
                              RAM_BYTES, RAM, number, words,
                              RIGPOLLEN_LIST_WORDS);
 }
@@ -75,6 +75,25 @@ static int agrees(const uint32_t *list)
     return 1;
 }
 
+/* Says where the code of each process is. */
+static void say_places(void)
+{
+    uint32_t words[RIGPOLLEN_LIST_WORDS], page[RIGPOLLEN_WALK_WORDS];
+
+    for (uint32_t number = 1; process(number, words) == 0; number++) {
+        uint32_t place;
+
+        if (rigpollen_walk(ram, RAM_BYTES, RAM,
+                           words[RIGPOLLEN_LIST_SATP] & RIGPOLLEN_SATP_ROOT,
+                           words[RIGPOLLEN_LIST_ENTRY], page,
+                           RIGPOLLEN_WALK_WORDS) != RIGPOLLEN_WALK_PAGE)
+            continue;
+        place = page[RIGPOLLEN_WALK_NUMBER] * RIGPOLLEN_PAGE_BYTES;
+        print("rom: process %u: its code is at %x, in %s\n", number, place,
+              place - RAM < RAM_BYTES ? "RAM" : "flash");
+    }
+}
+
 /* ------------------------------------------------------------- the boot */
 
 /* Returns where nothing was booted. */
@@ -100,7 +119,7 @@ void rom(void)
 {
     uint32_t answer[RIGPOLLEN_ANSWER_WORDS];
 
-    if (rigpollen_answer(flash, block_length(), flash, FLASH_BYTES, ram,
+    if (rigpollen_answer(flash, block_length(), flash, FLASH_BYTES, FLASH, ram,
                          RAM_BYTES, RAM, answer, RIGPOLLEN_ANSWER_WORDS)
         != RIGPOLLEN_LOADED) {
         print("rom: refused %u at %u, byte %u\n",
@@ -111,5 +130,6 @@ void rom(void)
     print("rom: loaded, %u of %u pages of RAM taken\n",
           answer[RIGPOLLEN_ANSWER_TAKEN],
           (uint32_t)RAM_BYTES / RIGPOLLEN_PAGE_BYTES);
+    say_places();
     start_kernel();
 }

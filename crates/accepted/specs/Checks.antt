@@ -132,16 +132,16 @@ decided top (records n f ∷ cs) ns = go (firstRecord f 0 n (firstRefusal cs)) (
 pub one-number : (c : Bool) (n top : ℕ) → n ≤ top → choose c n 0 ≤ top
 one-number c n top h = by-choose (λ m. m ≤ top) c n 0 (λ _. h) (λ _. omega arith)
 
-section-number : (b : List ℕ) (flash n : ℕ) → sectionRefusal b flash n ≤ 12
+section-number : (b : List ℕ) (flash n : ℕ) → sectionRefusal b flash n ≤ 13
 unfolding sectionRefusal
 section-number b flash n =
-    by-choose (λ m. m ≤ 12) _ 7 _ (λ _. omega arith) (λ _. by-choose (λ m. m ≤ 12) _ 8 _ (λ _. omega arith) (λ _. one-number _ 9 12 (omega arith)))
+    by-choose (λ m. m ≤ 13) _ 7 _ (λ _. omega arith) (λ _. by-choose (λ m. m ≤ 13) _ 8 _ (λ _. omega arith) (λ _. one-number _ 9 13 (omega arith)))
 
-pub numbered : (x : Image) (ram : Area) → Every (Numbered 12) (checks x ram)
+pub numbered : (x : Image) (ram : Area) → Every (Numbered 13) (checks x ram)
 unfolding checks lentChecks headerChecks processChecks blockChecks contentChecks processRecordCheck processCheck sectionCheck entryPointCheck regionCheck
 numbered x ram =
-    (omega arith) and (omega arith) and (omega arith) and (omega arith) and (omega arith) and (λ i. one-number _ 6 12 (omega arith)) and section-number (x .block) _
-    and (λ i. one-number _ 10 12 (omega arith)) and (λ i. one-number _ 11 12 (omega arith)) and (omega arith) and tt
+    (omega arith) and (omega arith) and (omega arith) and (omega arith) and (omega arith) and (omega arith) and (λ i. one-number _ 6 13 (omega arith))
+    and section-number (x .block) _ and (λ i. one-number _ 10 13 (omega arith)) and (λ i. one-number _ 11 13 (omega arith)) and (omega arith) and tt
 
 -- a check does not pass and refuse at once
 pub not-both : (c : Check) (v : Verdict) → 1 ≤ v .number → Passes c → Refuses c v → ⊥
@@ -157,7 +157,7 @@ unfolding accepted refused
 all-pass top cs v (inl d) = ((λ _. d .0), (λ _. rw (d .1)))
 all-pass top cs v (inr d) = ((λ e. absurd (omega (arith, d .0))), (λ ps. absurd (never top cs v d ps)))
 
-first-cause : (cs : List Check) (v : Verdict) → Decided 12 cs v → v .number ≢ 0 → (1 ≤ v .number) × (v .number ≤ 12) × FirstCause cs v
+first-cause : (cs : List Check) (v : Verdict) → Decided 13 cs v → v .number ≢ 0 → (1 ≤ v .number) × (v .number ≤ 13) × FirstCause cs v
 unfolding accepted refused
 first-cause cs v (inl d) h = absurd (h (rw (d .1)))
 first-cause cs v (inr d) h = d
@@ -177,13 +177,13 @@ all-checks-accepted top cs ns = all-accepted top cs _ (decided top cs ns)
 -- THE VERDICT: number 0, and then place and offset 0, exactly where every check passes; else the first cause
 pub verdict-passes : (x : Image) (ram : Area) → (verdict x ram .number ≡ 0) ↔ Every Passes (checks x ram)
 unfolding verdict
-verdict-passes x ram = all-checks-pass 12 (checks x ram) (numbered x ram)
+verdict-passes x ram = all-checks-pass 13 (checks x ram) (numbered x ram)
 
 pub verdict-accepted : (x : Image) (ram : Area) → verdict x ram .number ≡ 0 → verdict x ram ≡ accepted
 unfolding verdict
-verdict-accepted x ram e = all-checks-accepted 12 (checks x ram) (numbered x ram) (verdict-passes x ram .0 e)
+verdict-accepted x ram e = all-checks-accepted 13 (checks x ram) (numbered x ram) (verdict-passes x ram .0 e)
 
 pub verdict-refuses : (x : Image) (ram : Area) → verdict x ram .number ≢ 0
-    → (1 ≤ verdict x ram .number) × (verdict x ram .number ≤ 12) × FirstCause (checks x ram) (verdict x ram)
+    → (1 ≤ verdict x ram .number) × (verdict x ram .number ≤ 13) × FirstCause (checks x ram) (verdict x ram)
 unfolding verdict
-verdict-refuses x ram = first-cause _ _ (decided 12 (checks x ram) (numbered x ram))
+verdict-refuses x ram = first-cause _ _ (decided 13 (checks x ram) (numbered x ram))

@@ -19,38 +19,38 @@ use Rattle.order_laws.specs.Places.{tracker-uses-length}
 use Rattle.accepted.specs.Tracker.{tracker-ram}
 
 -- HOW MANY: the tracker's pages and the rest, which depends on the block alone
-pub order-length : (b : List ℕ) (T : ℕ) → length (order b T) ≡ length (order b 0) + T
+pub order-length : (b : List ℕ) (xip : ℕ → Bool) (T : ℕ) → length (order b xip T) ≡ length (order b xip 0) + T
 unfolding order belowTop
-order-length b T = simp (length-append, tab-length, tracker-uses-length) (omega arith)
+order-length b xip T = simp (length-append, tab-length, tracker-uses-length) (omega arith)
 
 -- the four at the top are there
-pub order-top : (b : List ℕ) (T : ℕ) → 4 ≤ length (order b T)
+pub order-top : (b : List ℕ) (xip : ℕ → Bool) (T : ℕ) → 4 ≤ length (order b xip T)
 unfolding order
-order-top b T = simp (length-append, tab-length) (omega arith)
+order-top b xip T = simp (length-append, tab-length) (omega arith)
 
 -- what fits into N pages fits into more
-pub needed-larger : (b : List ℕ) (N N′ : ℕ) → N ≤ N′ → pagesNeeded b N ≤ N → pagesNeeded b N′ ≤ N′
+pub needed-larger : (b : List ℕ) (xip : ℕ → Bool) (N N′ : ℕ) → N ≤ N′ → pagesNeeded b xip N ≤ N → pagesNeeded b xip N′ ≤ N′
 unfolding pagesNeeded uses trackerPages pagesFor
-needed-larger b N N′ l h =
+needed-larger b xip N N′ l h =
     let t : ℕ = (N + ioPages b + 4095) / 4096 in
     let t′ : ℕ = (N′ + ioPages b + 4095) / 4096 in
-    omega (arith, order-length b t, order-length b t′)
+    omega (arith, order-length b xip t, order-length b xip t′)
 
 pub tracker-pages-le : (b : List ℕ) (N N′ : ℕ) → N ≤ N′ → trackerPages b N ≤ trackerPages b N′
 unfolding trackerPages pagesFor
 tracker-pages-le b N N′ l = omega arith
 
 -- the pages needed less the tracker's depend on the block alone
-pub needed-less-tracker : (b : List ℕ) (N : ℕ) → pagesNeeded b N - trackerPages b N ≡ length (order b 0)
+pub needed-less-tracker : (b : List ℕ) (xip : ℕ → Bool) (N : ℕ) → pagesNeeded b xip N - trackerPages b N ≡ length (order b xip 0)
 unfolding pagesNeeded uses
-needed-less-tracker b N = omega (arith, order-length b (trackerPages b N))
+needed-less-tracker b xip N = omega (arith, order-length b xip (trackerPages b N))
 
 -- OWNERS: every page of the order has an owner among the processes
-module _ (b : List ℕ) (p : 1 ≤ processCount b) where
+module _ (b : List ℕ) (xip : ℕ → Bool) (p : 1 ≤ processCount b) where
   abbrev Owned : Use → Type 0
   Owned u = (1 ≤ useOwner u) × (useOwner u ≤ processCount b)
 
-  sections-owned : (q : ℕ) → 1 ≤ q → q ≤ processCount b → Every Owned (sectionUses b q)
+  sections-owned : (q : ℕ) → 1 ≤ q → q ≤ processCount b → Every Owned (sectionUses b xip q)
   unfolding sectionUses sectionPages useOwner dataOwner
   sections-owned q lo hi = every-gather Owned _ _ (λ j _. every-tab Owned _ _ (λ i _. (lo, hi)))
 
@@ -58,7 +58,7 @@ module _ (b : List ℕ) (p : 1 ≤ processCount b) where
   unfolding tableUses useOwner
   tables-owned q = ((omega arith, p), every-gather Owned 1024 _ (λ m _. by-choose (Every Owned) (hasLeaf b q m) _ _ (λ _. ((omega arith, p), tt)) (λ _. tt)))
 
-  pub order-owned : (T : ℕ) → Every Owned (order b T)
+  pub order-owned : (T : ℕ) → Every Owned (order b xip T)
   unfolding order belowTop allSections trackerUses allTables useOwner dataOwner
   order-owned T =
       every-append Owned (tab 4 top) _ (every-tab Owned 4 top (λ i _. (omega arith, p)))
@@ -68,30 +68,30 @@ module _ (b : List ℕ) (p : 1 ≤ processCount b) where
       ((omega arith, p) and (omega arith, p) and every-gather Owned _ _ (λ i _. tables-owned (i + 1)))))
 
 -- THE TRACKER'S BYTES FOR RAM, counted by a test
-tracker-count : (b : List ℕ) (N : ℕ) (t : ℕ → Bool) → pagesNeeded b N ≤ N
-    → count t (take N (tracker b N)) ≡ count (λ u. t (useOwner u)) (uses b N) + choose (t 0) (freePages b N) 0
+tracker-count : (b : List ℕ) (xip : ℕ → Bool) (N : ℕ) (t : ℕ → Bool) → pagesNeeded b xip N ≤ N
+    → count t (take N (tracker b xip N)) ≡ count (λ u. t (useOwner u)) (uses b xip N) + choose (t 0) (freePages b xip N) 0
 unfolding freePages pagesNeeded useOf owner
-tracker-count b N t h =
+tracker-count b xip N t h =
     rw tracker-ram
-    (count-tab t N (λ k. owner (useOf b N k))
-    ∙ sum-reverse N (λ i. one (t (owner (lookup (uses b N) i))))
-    ∙ count-lookups owner t (uses b N) N h)
+    (count-tab t N (λ k. owner (useOf b xip N k))
+    ∙ sum-reverse N (λ i. one (t (owner (lookup (uses b xip N) i))))
+    ∙ count-lookups owner t (uses b xip N) N h)
 
-pub tracker-count-owner : (b : List ℕ) (N q : ℕ) → 1 ≤ q → pagesNeeded b N ≤ N → count (λ x. eqb x q) (take N (tracker b N)) ≡ pagesOf b N q
+pub tracker-count-owner : (b : List ℕ) (xip : ℕ → Bool) (N q : ℕ) → 1 ≤ q → pagesNeeded b xip N ≤ N → count (λ x. eqb x q) (take N (tracker b xip N)) ≡ pagesOf b xip N q
 unfolding pagesOf
-tracker-count-owner b N q lo h =
-    let z : choose (eqb 0 q) (freePages b N) 0 ≡ 0 = choose-no _ _ (ne-eqb 0 q (λ e. omega arith)) in
-    tracker-count b N (λ x. eqb x q) h ∙ omega arith
+tracker-count-owner b xip N q lo h =
+    let z : choose (eqb 0 q) (freePages b xip N) 0 ≡ 0 = choose-no _ _ (ne-eqb 0 q (λ e. omega arith)) in
+    tracker-count b xip N (λ x. eqb x q) h ∙ omega arith
 
-pub tracker-count-free : (b : List ℕ) (N : ℕ) → 1 ≤ processCount b → pagesNeeded b N ≤ N → count (λ x. eqb x 0) (take N (tracker b N)) ≡ freePages b N
+pub tracker-count-free : (b : List ℕ) (xip : ℕ → Bool) (N : ℕ) → 1 ≤ processCount b → pagesNeeded b xip N ≤ N → count (λ x. eqb x 0) (take N (tracker b xip N)) ≡ freePages b xip N
 unfolding uses
-tracker-count-free b N p h =
-    let f : choose true (freePages b N) 0 ≡ freePages b N = choose-yes _ _ refl in
-    let z : count (λ u. eqb (useOwner u) 0) (uses b N) ≡ 0
-    = count-none _ _ (every-map (Owned b p) (λ u. eqb (useOwner u) 0 ≡ false) (order b (trackerPages b N)) (λ u o. ne-eqb (useOwner u) 0 (λ e. omega arith)) (order-owned b p (trackerPages b N))) in
-    tracker-count b N (λ x. eqb x 0) h ∙ omega arith
+tracker-count-free b xip N p h =
+    let f : choose true (freePages b xip N) 0 ≡ freePages b xip N = choose-yes _ _ refl in
+    let z : count (λ u. eqb (useOwner u) 0) (uses b xip N) ≡ 0
+    = count-none _ _ (every-map (Owned b xip p) (λ u. eqb (useOwner u) 0 ≡ false) (order b xip (trackerPages b N)) (λ u o. ne-eqb (useOwner u) 0 (λ e. omega arith)) (order-owned b xip p (trackerPages b N))) in
+    tracker-count b xip N (λ x. eqb x 0) h ∙ omega arith
 
 -- owners' pages add up to all pages of the order
-pub owners-sum : (b : List ℕ) (N : ℕ) → 1 ≤ processCount b → sum (processCount b) (λ i. pagesOf b N (i + 1)) ≡ pagesNeeded b N
+pub owners-sum : (b : List ℕ) (xip : ℕ → Bool) (N : ℕ) → 1 ≤ processCount b → sum (processCount b) (λ i. pagesOf b xip N (i + 1)) ≡ pagesNeeded b xip N
 unfolding pagesOf pagesNeeded uses
-owners-sum b N p = count-classes useOwner (processCount b) (order b (trackerPages b N)) (order-owned b p (trackerPages b N))
+owners-sum b xip N p = count-classes useOwner (processCount b) (order b xip (trackerPages b N)) (order-owned b xip p (trackerPages b N))

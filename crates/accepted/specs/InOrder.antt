@@ -6,7 +6,7 @@ use Prim.Native.Nat.{ℕ, zero, suc, _+_, _-_, _≤_, _<_}
 use native.Mathlib.Numerals.{add-one}
 use native.Mathlib.Omega.{arith}
 use lib.Dec.{eqb}
-use borrow.Author.Tests.{eq-eqb, ne-eqb}
+use borrow.Author.Tests.{eq-eqb, ne-eqb, eqb-true, eqb-false}
 use Rattle.notation.specs.Choice.{choose}
 use Rattle.laws.specs.Choice.{by-test, choose-yes, choose-no}
 use Rattle.laws.specs.Lists.{Every, _and_}
@@ -38,6 +38,13 @@ scan-same f g k (suc n) rest h = rw (h k (omega arith) (omega arith), scan-same 
 -- the first of two verdicts, or where it has number 0 the second
 abbrev pub firstOf : Verdict → Verdict → Verdict
 firstOf v w = choose (eqb (v .number) 0) w v
+
+-- both have number 0 where the first of them has
+pub first-none : (v w : Verdict) → firstOf v w .number ≡ 0 → (v .number ≡ 0) × (w .number ≡ 0)
+unfolding choose
+first-none v w e =
+    by-test (λ c. eqb (v .number) 0 ≡ c → choose c w v .number ≡ 0 → (v .number ≡ 0) × (w .number ≡ 0)) (eqb (v .number) 0)
+    (λ _ z h. (eqb-true (v .number) 0 z, h)) (λ _ z h. absurd (eqb-false (v .number) 0 z h)) refl e
 
 scan-then : (f : ℕ → RecordCheck) (k n : ℕ) (u v w : Verdict) → u ≡ firstOf v w → firstRecord f k n u ≡ firstOf (firstRecord f k n v) w
 unfolding firstRecord refused choose

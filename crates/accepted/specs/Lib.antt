@@ -2,6 +2,7 @@ pub mod Checks
 pub mod Located
 pub mod InOrder
 pub mod NoCause
+pub mod InPlace
 pub mod Fits
 pub mod Sections
 pub mod Tracker

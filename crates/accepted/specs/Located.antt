@@ -92,9 +92,9 @@ module _ (b : List ℕ) where
         from-12 = λ l. absurd (omega arith);
       }
 
-  pub region-located : (ram : Area) → Locates b (records (regionCount b) (regionCheck b ram))
+  pub region-located : (flash ram : Area) → Locates b (records (regionCount b) (regionCheck b flash ram))
   unfolding regionCheck regionAt regionsAt
-  region-located ram v h r =
+  region-located flash ram v h r =
       let eleven : v .number ≡ 11 = the-number _ 11 _ (r .1) h in
       record {
         to-5 = λ l. absurd (omega arith);
@@ -128,8 +128,9 @@ pub verdict-located : (x : Image) (ram : Area) → Located (x .block) (verdict x
 unfolding verdict checks lentChecks headerChecks processChecks blockChecks contentChecks
 verdict-located x ram =
     let b : List ℕ = x .block in
-    all-located b 12 (checks x ram) (numbered x ram)
+    all-located b 13 (checks x ram) (numbered x ram)
     (whole-located b 1 _ (λ l m. omega arith)
+    and whole-located b 13 _ (λ l m. omega arith)
     and whole-located b 2 _ (λ l m. omega arith)
     and whole-located b 3 _ (λ l m. omega arith)
     and whole-located b 4 _ (λ l m. omega arith)
@@ -137,6 +138,6 @@ verdict-located x ram =
     and process-located b
     and section-located b _
     and entry-point-located b
-    and region-located b ram
+    and region-located b _ ram
     and whole-located b 12 _ (λ l m. omega arith)
     and tt)

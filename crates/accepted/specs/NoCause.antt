@@ -10,18 +10,19 @@ use borrow.Author.Tests.{eqb-true}
 use Rattle.notation.specs.Choice.{choose}
 use Rattle.types.specs.declared.Area.{Area}
 use Rattle.types.specs.declared.Answer.{Answer}
-use Rattle.rules.specs.Lent.{Image, Ram, ramArea, pagesIn}
+use Rattle.rules.specs.Lent.{Image, Memory, memoryArea, pagesIn}
 use Rattle.rules.specs.Block.{processCount, sectionCount, regionCount}
-use Rattle.rules.specs.Refusals.{ramUnfit, blockTooShort, formatUnknown, countsOutOfBounds, layoutNotTight, processUnfit, sectionUnfit, sectionMisplaced, sectionPastFlash}
+use Rattle.rules.specs.Refusals.{ramUnfit, flashUnfit, blockTooShort, formatUnknown, countsOutOfBounds, layoutNotTight, processUnfit, sectionUnfit, sectionMisplaced, sectionPastFlash}
 use Rattle.rules.specs.Refusals.{entryPointOutside, regionUnfit, ramTooSmall, processRecordCheck, processCheck, sectionRefusal, sectionCheck, entryPointCheck, regionCheck, refused, accepted, lentChecks, headerChecks, processChecks, blockChecks, contentChecks, checks, verdict}
 use Rattle.rules.specs.Load.{boots, bootAnswer, refusalAnswer, answerOn}
 use Rattle.laws.specs.Choice.{by-choose}
 use Rattle.laws.specs.Lists.{Every}
 use Rattle.accepted.specs.Checks.{Passes, verdict-passes, verdict-accepted}
 
--- 1 to 12
+-- 1 to 13
 pub record NoCause (x : Image) (ram : Area) : Type 0 where
   pub ram-fit : ramUnfit ram ≡ false
+  pub flash-fit : flashUnfit (memoryArea (x .flash)) ram ≡ false
   pub block-long : blockTooShort (x .block) ≡ false
   pub format-known : formatUnknown (x .block) ≡ false
   pub counts-in-bounds : countsOutOfBounds (x .block) ≡ false
@@ -29,10 +30,10 @@ pub record NoCause (x : Image) (ram : Area) : Type 0 where
   pub process-fit : (i : ℕ) → i < processCount (x .block) → processUnfit (x .block) i ≡ false
   pub section-fit : (n : ℕ) → n < sectionCount (x .block) → sectionUnfit (x .block) n ≡ false
   pub section-placed : (n : ℕ) → n < sectionCount (x .block) → sectionMisplaced (x .block) n ≡ false
-  pub section-in-flash : (n : ℕ) → n < sectionCount (x .block) → sectionPastFlash (x .block) (length (x .flash)) n ≡ false
+  pub section-in-flash : (n : ℕ) → n < sectionCount (x .block) → sectionPastFlash (x .block) (length (x .flash .bytes)) n ≡ false
   pub entry-point-inside : (i : ℕ) → i < processCount (x .block) → entryPointOutside (x .block) i ≡ false
-  pub region-fit : (i : ℕ) → i < regionCount (x .block) → regionUnfit (x .block) ram i ≡ false
-  pub room : ramTooSmall (x .block) (pagesIn ram .pages) ≡ false
+  pub region-fit : (i : ℕ) → i < regionCount (x .block) → regionUnfit (x .block) (memoryArea (x .flash)) ram i ≡ false
+  pub room : ramTooSmall x (pagesIn ram .pages) ≡ false
 
 -- a number that is given where a test passes is not given
 not-given : (c : Bool) (n m : ℕ) → choose c (suc n) m ≡ 0 → (c ≡ false) × (m ≡ 0)
@@ -51,8 +52,9 @@ none-of-7-8-9 b flash n e =
 -- the list of checks, taken apart: the one place that goes by position
 from-checks : (x : Image) (ram : Area) → Every Passes (checks x ram) → NoCause x ram
 unfolding checks lentChecks headerChecks processChecks blockChecks contentChecks processUnfit processRecordCheck processCheck sectionCheck entryPointCheck regionCheck
-from-checks x ram (one, (two, (three, (four, (five, (six, (sections, (ten, (eleven, (twelve, end)))))))))) = record {
+from-checks x ram (one, (thirteen, (two, (three, (four, (five, (six, (sections, (ten, (eleven, (twelve, end))))))))))) = record {
   ram-fit = one;
+  flash-fit = thirteen;
   block-long = two;
   format-known = three;
   counts-in-bounds = four;
@@ -69,9 +71,9 @@ from-checks x ram (one, (two, (three, (four, (five, (six, (sections, (ten, (elev
 pub no-cause : (x : Image) (ram : Area) → verdict x ram .number ≡ 0 → NoCause x ram
 no-cause x ram e = from-checks x ram (verdict-passes x ram .0 e)
 
-pub booted : (x : Image) (r : Ram) → boots x r ≡ true → NoCause x (ramArea r)
+pub booted : (x : Image) (r : Memory) → boots x r ≡ true → NoCause x (memoryArea r)
 unfolding boots
-booted x r e = no-cause x (ramArea r) (eqb-true (verdict x (ramArea r) .number) 0 e)
+booted x r e = no-cause x (memoryArea r) (eqb-true (verdict x (memoryArea r) .number) 0 e)
 
 -- number, place and offset of an answer are those of the verdict
 module _ (x : Image) (ram : Area) where

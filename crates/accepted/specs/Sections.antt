@@ -11,13 +11,13 @@ use native.Mathlib.Nat.{not-suc-le-zero}
 use native.Mathlib.Numerals.{add-one}
 use native.Mathlib.Omega.{arith}
 use lib.ListN.{length}
-use lib.Dec.{leb, ltb, eqb}
+use lib.Dec.{leb, eqb}
 use borrow.Author.Tests.{eqb-true, eqb-false, eq-eqb, ne-eqb, leb-true, leb-false, ltb-true, ltb-false, le-leb, lt-ltb, not-false}
 use Rattle.notation.specs.Choice.{choose}
 use Rattle.types.specs.declared.Area.{Area}
 use Rattle.rules.specs.Lent.{Image}
-use Rattle.rules.specs.Block.{stackPages, stackFirst, processCount, sectionCount, processRecord, sectionsOf, firstSection, sectionRecord, address, size, flashOffset, noCopy, sectionEnd, firstPage, lastPage}
-use Rattle.rules.specs.Refusals.{sectionsBefore, recordUnfit, processUnfit, sectionUnfit, hasSection, ownerOf, rangeFirst, rangeLast, sectionMisplaced, sectionPastFlash}
+use Rattle.rules.specs.Block.{stackPages, stackFirst, processCount, sectionCount, processRecord, sectionsOf, firstSection, sectionRecord, hasSection, ownerOf, address, size, flashOffset, noCopy, sectionEnd, firstPage, lastPage}
+use Rattle.rules.specs.Refusals.{sectionsBefore, recordUnfit, processUnfit, sectionUnfit, rangeFirst, rangeLast, sectionMisplaced, sectionPastFlash}
 use Rattle.rules.specs.Space.{hasPage, sectionMapping, sectionAtPage}
 use Rattle.laws.specs.Choice.{false-not-true, by-test, choose-yes, choose-lt, and-both, and-left, and-right, and-rest, any-none}
 use Rattle.laws.specs.Lists.{by-find-last}
@@ -72,14 +72,14 @@ module _ (x : Image) (ram : Area) (ok : NoCause x ram) where
   first-is : (q : ℕ) → 1 ≤ q → q ≤ processCount b → firstSection b q ≡ sectionsBefore b (q - 1)
   unfolding processUnfit recordUnfit processRecord
   first-is q lo hi =
-      let f : firstSection b (q - 1 + 1) ≡ sectionsBefore b (q - 1) = eqb-true _ _ (not-false _ (any-none _ (ok .process-fit (q - 1) (omega arith)) 2)) in
+      let f : firstSection b (q - 1 + 1) ≡ sectionsBefore b (q - 1) = eqb-true _ _ (not-false _ (any-none _ (ok .process-fit (q - 1) (omega arith)) 3)) in
       let e : q - 1 + 1 ≡ q = omega arith in
       rw e at f
 
   sum-fits : (q : ℕ) → 1 ≤ q → q ≤ processCount b → sectionsBefore b q ≤ sectionCount b
   unfolding processUnfit recordUnfit processRecord
   sum-fits q lo hi =
-      let f : sectionsBefore b (q - 1) + sectionsOf b (q - 1 + 1) ≤ sectionCount b = ltb-false _ _ (any-none _ (ok .process-fit (q - 1) (omega arith)) 3) in
+      let f : sectionsBefore b (q - 1) + sectionsOf b (q - 1 + 1) ≤ sectionCount b = ltb-false _ _ (any-none _ (ok .process-fit (q - 1) (omega arith)) 4) in
       let e : q - 1 + 1 ≡ q = omega arith in
       rw (sections-up-to b q lo) (rw e at f)
 
@@ -114,7 +114,7 @@ module _ (x : Image) (ram : Area) (ok : NoCause x ram) where
         let e : q - 1 + 1 ≡ q = omega arith in
         rw e (and-both (le-leb (firstSection b q) (firstSection b q + j) (omega arith)) (lt-ltb (firstSection b q + j) (firstSection b q + sectionsOf b q) (omega arith)))
 
-    owner-is : ownerOf b (sectionRecord b q j) ≡ q
+    pub owner-is : ownerOf b (sectionRecord b q j) ≡ q
     unfolding ownerOf
     owner-is =
         by-find-last (hasSection b (sectionRecord b q j)) (λ m. (elim m as (λ x. ℕ) [ none ↦ 0 | some i ↦ i + 1 ]) ≡ q) (processCount b)
@@ -142,11 +142,11 @@ module _ (x : Image) (ram : Area) (ok : NoCause x ram) where
 
     -- 9: without NOCOPY its bytes are in flash
     pub section-in-flash : (k : ℕ) → k < size b (sectionRecord b q j) → noCopy b (sectionRecord b q j) ≡ false
-        → flashOffset b (sectionRecord b q j) + k < length (x .flash)
+        → flashOffset b (sectionRecord b q j) + k < length (x .flash .bytes)
     unfolding sectionPastFlash
     section-in-flash k h copied =
         let y : not (noCopy b (sectionRecord b q j)) ≡ true = rw copied in
-        omega (arith, ltb-false (length (x .flash)) (flashOffset b (sectionRecord b q j) + size b (sectionRecord b q j)) (and-rest y (ok .section-in-flash _ record-in)))
+        omega (arith, ltb-false (length (x .flash .bytes)) (flashOffset b (sectionRecord b q j) + size b (sectionRecord b q j)) (and-rest y (ok .section-in-flash _ record-in)))
 
     pub section-in-space : (k : ℕ) → k < size b (sectionRecord b q j) → address b (sectionRecord b q j) + k < 0x1_0000_0000
     unfolding sectionEnd
@@ -168,7 +168,7 @@ module _ (x : Image) (ram : Area) (ok : NoCause x ram) where
       let i : ℕ = processCount b - 1 in
       let e : i + 1 ≡ processCount b = omega arith in
       let n : ℕ = sectionsBefore b i + sectionsOf b (i + 1) in
-      let f : (eqb (i + 1) (processCount b) && not (eqb n (sectionCount b))) ≡ false = any-none _ (ok .process-fit i (omega arith)) 4 in
+      let f : (eqb (i + 1) (processCount b) && not (eqb n (sectionCount b))) ≡ false = any-none _ (ok .process-fit i (omega arith)) 5 in
       rw e at (sections-before-next b i ∙ eqb-true n (sectionCount b) (not-false _ (and-rest (eq-eqb (i + 1) (processCount b) e) f)))
 
   pub section-owner : (n : ℕ) → 1 ≤ processCount b → n < sectionCount b

@@ -9,7 +9,6 @@ use lib.ListN.{length}
 use Rattle.notation.specs.Words.{word, bit}
 use Rattle.laws.specs.Words.{word-past}
 use Rattle.rules.specs.Block.{sectionsAt, sectionAt, address, size, flashOffset, flags, noCopy, writable, executable, sectionEnd, firstPage, lastPage, pageCount}
-use Rattle.rules.specs.Order.{pagesTaken}
 use Rattle.block_records.specs.Read.{IsSection}
 
 -- the words past the end are those of every section record past the end
@@ -38,7 +37,7 @@ pub section-is : {b : List ℕ} {n a s o f l : ℕ} {z w x : Bool}
       «last_page» = record { 0 = l / 4096 };
       pages = l / 4096 + 1 - a / 4096;
     })
-unfolding noCopy writable executable sectionEnd firstPage lastPage pageCount pagesTaken
+unfolding noCopy writable executable sectionEnd firstPage lastPage pageCount
 section-is ea es eo ef ez ew ex el ha hs = record {
   address-is = ea;
   size-is = es;
@@ -49,6 +48,6 @@ section-is ea es eo ef ez ew ex el ha hs = record {
   is-executable = rw ef at ex;
   first-page = rw ea;
   last-page = rw (el, ea, es);
-  pages-taken = rw (el, ea, es);
+  page-count = rw (el, ea, es);
   pages-few = omega arith;
 }

@@ -4,10 +4,9 @@ use mathlib.Core.List.{List}
 use Prim.Native.Nat.{ℕ, _≤_}
 use Rattle.types.specs.declared.Process.{Process}
 use Rattle.rules.specs.Block.{entryPoint, firstSection, sectionsOf, kind}
-use Rattle.rules.specs.Block.{address, size, flashOffset, flags, noCopy, writable, executable, firstPage, lastPage}
+use Rattle.rules.specs.Block.{address, size, flashOffset, flags, noCopy, writable, executable, firstPage, lastPage, pageCount}
 use Rattle.rules.specs.Block.{regionStart, regionPages, regionArea}
 use Rattle.rules.specs.Lent.{endOf}
-use Rattle.rules.specs.Order.{pagesTaken}
 use Rattle.block_records.specs.declared.Section.{Section}
 use Rattle.block_records.specs.declared.Region.{Region}
 
@@ -18,7 +17,7 @@ pub record IsProcess (b : List ℕ) (q : ℕ) (r : Process) : Type 0 where
   pub sections-of : r .sections ≡ sectionsOf b q
   pub kind-is : r .kind ≡ kind b q
 
--- r is section record n, which takes at most 0x200000 pages
+-- r is section record n, which has at most 0x200000 pages
 pub record IsSection (b : List ℕ) (n : ℕ) (r : Section) : Type 0 where
   pub address-is : r .address ≡ address b n
   pub size-is : r .size ≡ size b n
@@ -29,7 +28,7 @@ pub record IsSection (b : List ℕ) (n : ℕ) (r : Section) : Type 0 where
   pub is-executable : r .executable ≡ executable b n
   pub first-page : r .«first_page» .0 ≡ firstPage b n
   pub last-page : r .«last_page» .0 ≡ lastPage b n
-  pub pages-taken : r .pages ≡ pagesTaken b n
+  pub page-count : r .pages ≡ pageCount b n
   pub pages-few : r .pages ≤ 0x20_0000
 
 -- r is region record i

@@ -8,7 +8,7 @@ ghost use Rattle.block_records.specs.Read.{IsProcess, IsSection, IsRegio
 use types::Process;
 use types::VirtPage;
 
-// A section record, its flags by name, its virtual pages, and how many pages it takes in RAM.
+// A section record, its flags by name, its virtual pages, and how many they are.
 pub struct Section {
     pub address: u32,
     pub size: u32,

@@ -1,22 +1,45 @@
-// Refusals 1 to 5: RAM's place and size, a short block, the format, the counts, and the layout. Each function answers for any input.
+// Refusals 1, 13 and 2 to 5: RAM's place and size, flash's place, a short block, the format, the counts, and the layout. Each function
+// answers for any input.
+use types::Area;
 ghost use mathlib.Core.Path.{_≡_};
-ghost use Rattle.rules.specs.Lent.{areaOf};
-ghost use Rattle.rules.specs.Refusals.{ramUnfit, blockTooShort, formatUnknown, outside, countsOutside, countsOutOfBounds, layoutNotTight};
+ghost use lib.Dec.{ltb};
+ghost use Rattle.rules.specs.Lent.{endOf};
+ghost use Rattle.rules.specs.Refusals.{ramUnfit, flashUnfit, blockTooShort, formatUnknown, outside, countsOutside, countsOutOfBounds, layoutNotTight};
 
-// Refusal 1, for RAM of `length` bytes from `start` on.
-pub fn ram_unfit(start: u32, length: usize) -> bool
-    ensures { λ r. ⌜ r ≡ ramUnfit (areaOf start length) ⌝ }
+// The area ends past 2^32. (Its start and its length are not added: the sum might wrap.)
+fn ends_high(area: Area) -> bool
+    ensures { λ r. ⌜ r ≡ ltb 0x1_0000_0000 (endOf area) ⌝ }
 {
-    if length % 4096 != 0 {
+    0x1_0000_0000 - (area.start as usize) < area.length
+}
+
+// Refusal 1.
+pub fn ram_unfit(ram: Area) -> bool
+    ensures { λ r. ⌜ r ≡ ramUnfit ram ⌝ }
+{
+    if ram.length % 4096 != 0 {
         return true;
     }
-    if 4096 < length / 4096 {
+    if 4096 < ram.length / 4096 {
         return true;
     }
-    if start % 4096 != 0 {
+    if ram.start % 4096 != 0 {
         return true;
     }
-    0x1_0000_0000 < start as u64 + length as u64
+    ends_high(ram)
+}
+
+// Refusal 13.
+pub fn flash_unfit(flash: Area, ram: Area) -> bool
+    ensures { λ r. ⌜ r ≡ flashUnfit flash ram ⌝ }
+{
+    if flash.start % 4096 != 0 {
+        return true;
+    }
+    if ends_high(flash) {
+        return true;
+    }
+    areas::share_address(flash, ram)
 }
 
 // Refusal 2.

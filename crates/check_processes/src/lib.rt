@@ -28,7 +28,11 @@ fn sections_before(block: &[u8], n: u32) -> u64
 fn record_unfit(process: Process, i: u32, p: u32, before: u64, s: u32) -> bool
     ensures { λ r. ⌜ r ≡ recordUnfit process i p before s ⌝ }
 {
-    if process.kind != 0 {
+    if 1 < process.kind {
+        return true;
+    }
+    // Kind 1 is for user processes, and record 0 is the kernel's.
+    if both(process.kind == 1, i == 0) {
         return true;
     }
     if process.sections == 0 {

@@ -8,7 +8,7 @@ ghost use Prim.Native.Nat.{_+_, _-_};
 ghost use lib.Dec.{eqb, leb, ltb};
 ghost use Rattle.notation.specs.Choice.{any};
 ghost use Rattle.rules.specs.Block.{firstSection, firstPage, lastPage};
-ghost use Rattle.rules.specs.Refusals.{sectionUnfit, hasSection, ownerOf, rangeFirst, rangeLast, sectionMisplaced, sectionPastFlash, sectionRefusal, sectionCheck};
+ghost use Rattle.rules.specs.Refusals.{sectionUnfit, rangeFirst, rangeLast, sectionMisplaced, sectionPastFlash, sectionRefusal, sectionCheck};
 
 // Refusal 7 of a size, flags, writable with executable, and NOCOPY with a flash offset other than 0.
 fn record_unfit(size: u32, flags: u32, writes: bool, skips: bool) -> bool
@@ -37,29 +37,6 @@ fn section_unfit(block: &[u8], n: u32) -> bool
         both(section.writable, section.executable),
         both(section.no_copy, section.flash_offset != 0),
     )
-}
-
-// Section record n is one of the sections of process record i.
-fn has_section(block: &[u8], n: u32, i: u32) -> bool
-    ensures { λ r. ⌜ r ≡ hasSection (now (block .entry)) n i ⌝ }
-{
-    let process = block_records::read_process_record(block, i);
-    let end = process.first_section as u64 + process.sections as u64;
-    both(process.first_section <= n, (n as u64) < end)
-}
-
-// The process that owns section record n, or 0.
-fn owner_of(block: &[u8], n: u32) -> u32
-    ensures { λ r. ⌜ r ≡ ownerOf (now (block .entry)) n ⌝ }
-{
-    let mut q = block_header::process_count(block);
-    while 0 < q {
-        if has_section(block, n, q - 1) {
-            return q;
-        }
-        q -= 1;
-    }
-    0
 }
 
 // The first address of the range for the sections of process q.
@@ -109,7 +86,7 @@ fn starts_low(block: &[u8], n: u32, q: u32) -> bool
 fn section_misplaced(block: &[u8], n: u32) -> bool
     ensures { λ r. ⌜ r ≡ sectionMisplaced (now (block .entry)) n ⌝ }
 {
-    let owner = owner_of(block, n);
+    let owner = section_owners::owner_of(block, n as usize);
     let low = starts_low(block, n, owner);
     let section = block_records::read_section(block, n as usize);
     let end = section.address as u64 + section.size as u64;

@@ -1,12 +1,10 @@
 -- The checks that go record by record.
-use mathlib.Core.List.{List, [], _∷_}
+use mathlib.Core.List.{List, [], _∷_, _++_}
 use Prim.Native.Nat.{ℕ, _≤_}
-use lib.ListN.{length}
 use Rattle.types.specs.declared.Area.{Area}
 use Rattle.types.specs.declared.RecordCheck.{RecordCheck}
-use Rattle.rules.specs.Lent.{Image}
 use Rattle.rules.specs.Block.{processCount, sectionCount, regionCount}
-use Rattle.rules.specs.Refusals.{Check, records, processCheck, sectionCheck, entryPointCheck, regionCheck}
+use Rattle.rules.specs.Refusals.{Check, records, lentChecks, headerChecks, processCheck, sectionCheck, entryPointCheck, regionCheck}
 use Rattle.checks.specs.declared.Scan.{Scan}
 use Rattle.checks.specs.declared.Scan.the-variants.{Processes, Sections, EntryPoints, Regions}
 
@@ -23,17 +21,22 @@ recordCount Sections b = sectionCount b
 recordCount EntryPoints b = processCount b
 recordCount Regions b = regionCount b
 
--- the check of record i
-unfoldable pub checkAt : Scan → Image → Area → ℕ → RecordCheck
-checkAt Processes x ram i = processCheck (x .block) i
-checkAt Sections x ram i = sectionCheck (x .block) (length (x .flash)) i
-checkAt EntryPoints x ram i = entryPointCheck (x .block) i
-checkAt Regions x ram i = regionCheck (x .block) ram i
+-- the check of record i, where flash and RAM lie so
+unfoldable pub checkAt : Scan → List ℕ → Area → Area → ℕ → RecordCheck
+checkAt Processes b flash ram i = processCheck b i
+checkAt Sections b flash ram i = sectionCheck b (flash .length) i
+checkAt EntryPoints b flash ram i = entryPointCheck b i
+checkAt Regions b flash ram i = regionCheck b flash ram i
 
 -- the scan, as one step of the checks
-abbrev pub scanOf : Scan → Image → Area → Check
-scanOf scan x ram = records (recordCount scan (x .block)) (checkAt scan x ram)
+abbrev pub scanOf : Scan → List ℕ → Area → Area → Check
+scanOf scan b flash ram = records (recordCount scan b) (checkAt scan b flash ram)
 
 -- 6 to 11
-unfoldable pub recordChecks : Image → Area → List Check
-recordChecks x ram = scanOf Processes x ram ∷ scanOf Sections x ram ∷ scanOf EntryPoints x ram ∷ scanOf Regions x ram ∷ []
+unfoldable pub recordChecks : List ℕ → Area → Area → List Check
+recordChecks b flash ram =
+    scanOf Processes b flash ram ∷ scanOf Sections b flash ram ∷ scanOf EntryPoints b flash ram ∷ scanOf Regions b flash ram ∷ []
+
+-- all but 12
+unfoldable pub checksBefore12 : List ℕ → Area → Area → List Check
+checksBefore12 b flash ram = lentChecks flash ram ++ (headerChecks b ++ recordChecks b flash ram)

@@ -1,5 +1,6 @@
 -- DEMAND 3: "What boots on some RAM boots on any RAM with as many pages or more, at any start, whatever it held (if the new RAM draws
--- neither 1 nor 11), and every process sees the same at every 32-bit address, but for the tracker and the satp words."
+-- neither 1 nor 11), and every process sees the same at every 32-bit address, but for the tracker and the satp words." 02, A6: flash is the
+-- same, at the same address, and the new RAM does not draw 13 either.
 use mathlib.Core.Path.{_≡_, refl, sym, ap, _∙_}
 use mathlib.Core.Logic.{_≢_}
 use mathlib.Core.List.{List}
@@ -15,7 +16,7 @@ use Rattle.notation.specs.Words.{byteOf}
 use Rattle.types.specs.declared.Verdict.{Verdict}
 use Rattle.types.specs.declared.Answer.{Answer}
 use Rattle.types.specs.declared.Area.{Area}
-use Rattle.rules.specs.Lent.{Image, Ram, ramArea, pagesIn}
+use Rattle.rules.specs.Lent.{Image, Memory, memoryArea, pagesIn}
 use Rattle.rules.specs.Block.{processCount, sectionCount}
 use Rattle.rules.specs.Space.{Data, Mapping, unmapped, stack, maps, inTracker, kernelPage, mappingAt}
 use Rattle.rules.specs.Order.{order, trackerPages, pagesNeeded}
@@ -25,6 +26,7 @@ use Rattle.rules.specs.Contents.{tracker, processWord, processListByte}
 use Rattle.rules.specs.Load.{boots, bootAnswer, answerOn, answer}
 use Rattle.rules.specs.Sees.{byteAt, viewOf, sees, seesOn, processSees}
 use Rattle.rules.specs.Compare.{Compared, everything, rightsOnly, nothing, atSatp, compared, withoutByte, Agree}
+use Rattle.rules.specs.InPlace.{xipOf}
 use Rattle.laws.specs.Choice.{by-test, by-choose, choose-yes, and-both}
 use Rattle.laws.specs.Lists.{Every, _and_, every-at}
 use Rattle.accepted.specs.Checks.{Passes, Refuses, FirstCause, not-both}
@@ -36,47 +38,48 @@ use Rattle.demands.specs.Mappings.{by-mapping, in-tracker-first, in-trac
 use Rattle.demands.specs.Demand2.{sees-what-the-rules-give}
 
 -- BOOTS ON ANY LARGER RAM
--- a check gives no refusal but 1 and 11
+-- a check gives no refusal but 1, 11 and 13
 abbrev Only : Check → Type 0
-Only c = (v : Verdict) → 1 ≤ v .number → v .number ≢ 1 → v .number ≢ 11 → Refuses c v → ⊥
+Only c = (v : Verdict) → 1 ≤ v .number → v .number ≢ 1 → v .number ≢ 11 → v .number ≢ 13 → Refuses c v → ⊥
 
 passes-only : (c : Check) → Passes c → Only c
-passes-only c p v h _ _ r = not-both c v h p r
+passes-only c p v h _ _ _ r = not-both c v h p r
 
-region-only : (b : List ℕ) (ram : Area) (n : ℕ) → Only (records n (regionCheck b ram))
+region-only : (b : List ℕ) (flash ram : Area) (n : ℕ) → Only (records n (regionCheck b flash ram))
 unfolding regionCheck
-region-only b ram n v h _ no-11 r =
+region-only b flash ram n v h _ no-11 _ r =
     by-choose (λ z. z ≡ v .number → ⊥) _ 11 0 (λ _ e. no-11 (sym e)) (λ _ e. omega arith) (r .1)
 
 -- what passes for one RAM draws no other number for a larger one
-only-1-and-11 : (x : Image) (ram ram′ : Area) → pagesIn ram .pages ≤ pagesIn ram′ .pages → NoCause x ram → Every Only (checks x ram′)
+only-1-11-and-13 : (x : Image) (ram ram′ : Area) → pagesIn ram .pages ≤ pagesIn ram′ .pages → NoCause x ram → Every Only (checks x ram′)
 unfolding checks lentChecks headerChecks processChecks blockChecks contentChecks processUnfit processRecordCheck processCheck sectionRefusal sectionCheck entryPointCheck ramTooSmall choose
-only-1-and-11 x ram ram′ l ok =
+only-1-11-and-13 x ram ram′ l ok =
     let b : List ℕ = x .block in
-    let enough : pagesNeeded b (pagesIn ram .pages) ≤ pagesIn ram .pages = ltb-false _ _ (ok .room) in
-    (λ v h no-1 no-11 r. no-1 (r .1))
+    let enough : pagesNeeded b (xipOf x) (pagesIn ram .pages) ≤ pagesIn ram .pages = ltb-false _ _ (ok .room) in
+    (λ v h no-1 no-11 no-13 r. no-1 (r .1))
+    and (λ v h no-1 no-11 no-13 r. no-13 (r .1))
     and passes-only (whole 2 (blockTooShort b)) (ok .block-long)
     and passes-only (whole 3 (formatUnknown b)) (ok .format-known)
     and passes-only (whole 4 (countsOutOfBounds b)) (ok .counts-in-bounds)
     and passes-only (whole 5 (layoutNotTight b)) (ok .layout-tight)
     and passes-only (records (processCount b) (processCheck b)) (λ i h. rw (ok .process-fit i h))
-    and passes-only (records (sectionCount b) (sectionCheck b (length (x .flash)))) (λ n h. rw (ok .section-fit n h, ok .section-placed n h, ok .section-in-flash n h))
+    and passes-only (records (sectionCount b) (sectionCheck b (length (x .flash .bytes)))) (λ n h. rw (ok .section-fit n h, ok .section-placed n h, ok .section-in-flash n h))
     and passes-only (records (processCount b) (entryPointCheck b)) (λ i h. rw (ok .entry-point-inside i h))
-    and region-only b ram′ _
-    and passes-only (whole 12 (ramTooSmall b (pagesIn ram′ .pages))) (le-ltb _ _ (needed-larger b (pagesIn ram .pages) (pagesIn ram′ .pages) l enough))
+    and region-only b _ ram′ _
+    and passes-only (whole 12 (ramTooSmall x (pagesIn ram′ .pages))) (le-ltb _ _ (needed-larger b (xipOf x) (pagesIn ram .pages) (pagesIn ram′ .pages) l enough))
     and tt
 
-pub boots-on-larger-ram : (x : Image) (r r′ : Ram) → boots x r ≡ true → pagesIn (ramArea r) .pages ≤ pagesIn (ramArea r′) .pages
-    → verdict x (ramArea r′) .number ≢ 1 → verdict x (ramArea r′) .number ≢ 11 → boots x r′ ≡ true
+pub boots-on-larger-ram : (x : Image) (r r′ : Memory) → boots x r ≡ true → pagesIn (memoryArea r) .pages ≤ pagesIn (memoryArea r′) .pages
+    → verdict x (memoryArea r′) .number ≢ 1 → verdict x (memoryArea r′) .number ≢ 11 → verdict x (memoryArea r′) .number ≢ 13 → boots x r′ ≡ true
 unfolding boots
-boots-on-larger-ram x r r′ e l no-1 no-11 =
-    let v : Verdict = verdict x (ramArea r′) in
+boots-on-larger-ram x r r′ e l no-1 no-11 no-13 =
+    let v : Verdict = verdict x (memoryArea r′) in
     elim (ℕ-discrete (v .number) 0) [
       | yes z ↦ eq-eqb (v .number) 0 z
       | no z ↦
-          let c : (1 ≤ v .number) × (v .number ≤ 12) × FirstCause (checks x (ramArea r′)) v = refusal-is-first-cause x (ramArea r′) z in
-          absurd (every-at Only (checks x (ramArea r′)) (c .2 .step)
-          (only-1-and-11 x (ramArea r) (ramArea r′) l (no-cause x (ramArea r) (eqb-true _ 0 e))) (c .2 .there) v (c .0) no-1 no-11 (c .2 .cause))
+          let c : (1 ≤ v .number) × (v .number ≤ 13) × FirstCause (checks x (memoryArea r′)) v = refusal-is-first-cause x (memoryArea r′) z in
+          absurd (every-at Only (checks x (memoryArea r′)) (c .2 .step)
+          (only-1-11-and-13 x (memoryArea r) (memoryArea r′) l (no-cause x (memoryArea r) (eqb-true _ 0 e))) (c .2 .there) v (c .0) no-1 no-11 no-13 (c .2 .cause))
     ]
 
 -- THE SAME ON BOTH
@@ -139,19 +142,19 @@ agree x track track′ s s′ T T′ q a l =
     (λ n. rw (same-mapping (x .block) T T′ q v (e ∙ sym e′)) (same-view x track track′ s s′ T′ q a e′ n))))
 
 -- the same block and flash on a RAM and on a new RAM with as many pages or more
-pub record SameOnBoth (x : Image) (r r′ : Ram) : Type 0 where
+pub record SameOnBoth (x : Image) (r r′ : Memory) : Type 0 where
   -- every process sees the same at every 32-bit address, in all that is compared there
   pub views : (q a : ℕ) → 1 ≤ q → q ≤ processCount (x .block) → a < 0x1_0000_0000
-      → Agree (compared (x .block) (trackerPages (x .block) (pagesIn (ramArea r) .pages)) (trackerPages (x .block) (pagesIn (ramArea r′) .pages)) a)
+      → Agree (compared (x .block) (trackerPages (x .block) (pagesIn (memoryArea r) .pages)) (trackerPages (x .block) (pagesIn (memoryArea r′) .pages)) a)
       (processSees x r q a) (processSees x r′ q a)
   -- pages taken less tracker pages is the same number in both answers
   pub pages : answer x r .taken - answer x r .tracker ≡ answer x r′ .taken - answer x r′ .tracker
 
-taken-less-tracker : (x : Image) (r : Ram) → boots x r ≡ true → answer x r .taken - answer x r .tracker ≡ length (order (x .block) 0)
+taken-less-tracker : (x : Image) (r : Memory) → boots x r ≡ true → answer x r .taken - answer x r .tracker ≡ length (order (x .block) (xipOf x) 0)
 unfolding boots answer answerOn bootAnswer
-taken-less-tracker x r e = ap (λ (a : Answer). a .taken - a .tracker) (choose-yes _ _ e) ∙ needed-less-tracker (x .block) (pagesIn (ramArea r) .pages)
+taken-less-tracker x r e = ap (λ (a : Answer). a .taken - a .tracker) (choose-yes _ _ e) ∙ needed-less-tracker (x .block) (xipOf x) (pagesIn (memoryArea r) .pages)
 
-pub same-on-both : (x : Image) (r r′ : Ram) → boots x r ≡ true → boots x r′ ≡ true → pagesIn (ramArea r) .pages ≤ pagesIn (ramArea r′) .pages
+pub same-on-both : (x : Image) (r r′ : Memory) → boots x r ≡ true → boots x r′ ≡ true → pagesIn (memoryArea r) .pages ≤ pagesIn (memoryArea r′) .pages
     → SameOnBoth x r r′
 unfolding seesOn sees
 same-on-both x r r′ e e′ l = record {
@@ -159,9 +162,9 @@ same-on-both x r r′ e e′ l = record {
       rw (
         sees-what-the-rules-give x r e q a lo hi h .0,
         sees-what-the-rules-give x r′ e′ q a lo hi h .0,
-        tracker-pages (x .block) (pagesIn (ramArea r) .pages),
-        tracker-pages (x .block) (pagesIn (ramArea r′) .pages),
+        tracker-pages (x .block) (xipOf x) (pagesIn (memoryArea r) .pages),
+        tracker-pages (x .block) (xipOf x) (pagesIn (memoryArea r′) .pages),
       )
-      (agree x _ _ _ _ _ _ q a (tracker-pages-le (x .block) (pagesIn (ramArea r) .pages) (pagesIn (ramArea r′) .pages) l));
+      (agree x _ _ _ _ _ _ q a (tracker-pages-le (x .block) (pagesIn (memoryArea r) .pages) (pagesIn (memoryArea r′) .pages) l));
   pages = taken-less-tracker x r e ∙ sym (taken-less-tracker x r′ e′);
 }

@@ -1,17 +1,17 @@
 -- DEMAND 2, "exactly the sections 01 gives it, zero around them, those rights, and nothing else but the kernel's own mapping and the stack
 -- reserve": what that says of a view, and that `sees` keeps to it where no cause of a refusal holds.
-use mathlib.Core.Path.{_≡_, refl, sym, ap, _∙_}
+use mathlib.Core.Path.{_≡_, refl, ap, _∙_}
 use mathlib.Core.Logic.{_≢_, _⊎_, inl, inr}
 use mathlib.Core.List.{List}
 use mathlib.Core.Option.{some}
-use mathlib.Core.Bool.{Bool, true, false, not, _&&_}
+use mathlib.Core.Bool.{true, false, _&&_}
 use Prim.Native.Nat.{ℕ, zero, suc, _+_, _-_, _*_, _/_, _≤_, _<_}
 use native.Mathlib.Decide.{ℕ-discrete}
 use native.Mathlib.Numerals.{add-one}
 use native.Mathlib.Omega.{arith}
 use lib.ListN.{length, getD}
-use lib.Dec.{eqb, leb, ltb}
-use borrow.Author.Tests.{eq-eqb, ne-eqb, le-leb, lt-leb, lt-ltb, le-ltb, ltb-false, ltb-true, leb-true}
+use lib.Dec.{leb, ltb}
+use borrow.Author.Tests.{eq-eqb, ne-eqb, le-leb, lt-leb, lt-ltb, le-ltb, ltb-false}
 use Rattle.notation.specs.Choice.{choose}
 use Rattle.types.specs.declared.Area.{Area}
 use Rattle.types.specs.declared.PageRange.{PageRange}
@@ -25,7 +25,8 @@ use Rattle.rules.specs.Order.{pagesFor, trackerPages, owner, useOf}
 use Rattle.rules.specs.Contents.{tracker, processListByte}
 use Rattle.rules.specs.Load.{satpWord}
 use Rattle.rules.specs.Sees.{sectionByte, byteAt, viewOf, sees, seesOn, sectionView}
-use Rattle.laws.specs.Choice.{false-not-true, by-choose, and-both, and-left, and-right, and-not-left, and-not-right, choose-yes, choose-no, any-none}
+use Rattle.rules.specs.InPlace.{xipOf}
+use Rattle.laws.specs.Choice.{false-not-true, by-choose, and-both, and-not-left, and-not-right, choose-yes, choose-no, any-none}
 use Rattle.laws.specs.Counts.{sum-none}
 use Rattle.accepted.specs.NoCause.{NoCause}
 use Rattle.accepted.specs.Sections.{section-at-page, page-from, page-to}
@@ -46,9 +47,9 @@ pub record Exactly (x : Image) (ram : PageRange) (q a : ℕ) (v : View) : Type 0
   -- the kernel's own mapping, in every process: the block copy, the tracker (owners of RAM pages rising, then zero for the I/O pages and
   -- behind them), the process list
   pub block-copy : (k : ℕ) → k < 4096 → a ≡ 0xFFF0_0000 + k → v ≡ S.Page kernelRead (getD (x .block) k 0)
-  pub tracker-ram : (k : ℕ) → k < ram .pages → a ≡ 0xFFF4_0000 + k → v ≡ S.Page kernelWrite (owner (useOf (x .block) (ram .pages) k))
+  pub tracker-ram : (k : ℕ) → k < ram .pages → a ≡ 0xFFF4_0000 + k → v ≡ S.Page kernelWrite (owner (useOf (x .block) (xipOf x) (ram .pages) k))
   pub tracker-rest : (k : ℕ) → ram .pages ≤ k → k < 4096 * trackerPages (x .block) (ram .pages) → a ≡ 0xFFF4_0000 + k → v ≡ S.Page kernelWrite 0
-  pub process-list : (k : ℕ) → k < 4096 → a ≡ 0xFFF8_0000 + k → v ≡ S.Page kernelRead (processListByte (x .block) (satpWord (x .block) ram) k)
+  pub process-list : (k : ℕ) → k < 4096 → a ≡ 0xFFF8_0000 + k → v ≡ S.Page kernelRead (processListByte (x .block) (satpWord (x .block) (xipOf x) ram) k)
   -- and nothing else
   pub nothing-else : ((p j : ℕ) → (p ≡ q) ⊎ (p ≡ 1) → j < sectionsOf (x .block) p → hasPage (x .block) (a / 4096) (sectionRecord (x .block) p j) ≡ false)
       → (q ≢ 1 → inStack (x .block) q (a / 4096) ≡ false) → a / 4096 ≢ 0xFFF00 → inTracker (trackerPages (x .block) (ram .pages)) (a / 4096) ≡ false → a / 4096 ≢ 0xFFF80
@@ -57,7 +58,7 @@ pub record Exactly (x : Image) (ram : PageRange) (q a : ℕ) (v : View) : Type 0
 -- 01: at most 4,096 I/O pages in all
 io-pages-few : (x : Image) (ram : Area) → NoCause x ram → ioPages (x .block) ≤ 4096
 unfolding ioPages ioPagesOf regionUnfit
-io-pages-few x ram ok = go (regionCount (x .block)) (λ i h. ltb-false 4096 _ (any-none _ (ok .region-fit i h) 5))
+io-pages-few x ram ok = go (regionCount (x .block)) (λ i h. ltb-false 4096 _ (any-none _ (ok .region-fit i h) 6))
   where
     go : (n : ℕ) → ((i : ℕ) → i < n → ioPagesOf (x .block) (i + 1) ≤ 4096) → ioPagesOf (x .block) n ≤ 4096
     go zero h = omega (arith, sum-none (regionPages (x .block)))
@@ -76,7 +77,7 @@ unfolding trackerPages pagesFor
 tracker-holds b N k h = omega arith
 
 section-byte-in : (x : Image) (n k : ℕ) → k < size (x .block) n
-    → sectionByte x n (address (x .block) n + k) ≡ choose (noCopy (x .block) n) 0 (getD (x .flash) (flashOffset (x .block) n + k) 0)
+    → sectionByte x n (address (x .block) n + k) ≡ choose (noCopy (x .block) n) 0 (getD (x .flash .bytes) (flashOffset (x .block) n + k) 0)
 unfolding sectionByte sectionEnd
 section-byte-in x n k h =
     let b : List ℕ = x .block in
@@ -172,9 +173,9 @@ module _ (x : Image) (ram : Area) (ok : NoCause x ram) (q a : ℕ) (lo : 1 ≤ q
 
   -- the view of what stands at virtual page v
   given-is : {s : Mapping} (v : ℕ) → a / 4096 ≡ v → mappingAt (x .block) (trackerPages (x .block) N) q v ≡ s
-      → given ≡ viewOf (byteAt x (tracker (x .block) N) (satpWord (x .block) (pagesIn ram)) a) s
+      → given ≡ viewOf (byteAt x (tracker (x .block) (xipOf x) N) (satpWord (x .block) (xipOf x) (pagesIn ram)) a) s
   unfolding seesOn sees
-  given-is v h e = rw (tracker-pages (x .block) N, h, e)
+  given-is v h e = rw (tracker-pages (x .block) (xipOf x) N, h, e)
 
   on-section : (p j : ℕ) → (p ≡ q) ⊎ (p ≡ 1) → j < sectionsOf (x .block) p → hasPage (x .block) (a / 4096) (sectionRecord (x .block) p j) ≡ true
       → given ≡ S.Page (sectionRights (x .block) p (sectionRecord (x .block) p j)) (sectionByte x (sectionRecord (x .block) p j) a)
@@ -182,7 +183,7 @@ module _ (x : Image) (ram : Area) (ok : NoCause x ram) (q a : ℕ) (lo : 1 ≤ q
   on-section p j of hj e = given-is (a / 4096) refl (section-page x ram ok (trackerPages (x .block) N) q p j (a / 4096) lo hi of hj e)
 
   on-tracker : (k : ℕ) → k < 4096 * trackerPages (x .block) N → a ≡ 0xFFF4_0000 + k
-      → given ≡ S.Page kernelWrite (getD (tracker (x .block) N) k 0)
+      → given ≡ S.Page kernelWrite (getD (tracker (x .block) (xipOf x) N) k 0)
   unfolding viewOf byteAt
   on-tracker k h e =
       let d : a - 0xFFF4_0000 ≡ k = omega arith in
@@ -198,8 +199,8 @@ module _ (x : Image) (ram : Area) (ok : NoCause x ram) (q a : ℕ) (lo : 1 ≤ q
     stack = λ user e. given-is (a / 4096) refl (stack-page (x .block) _ q (a / 4096) user e);
     block-copy = λ k h e.
         let d : a - 0xFFF0_0000 ≡ k = omega arith in given-is 0xFFF00 (omega arith) (block-copy-page (x .block) _ q) ∙ rw d;
-    tracker-ram = λ k h e. on-tracker k (tracker-holds (x .block) N k h) e ∙ rw (tracker-byte (x .block) N k h);
-    tracker-rest = λ k h l e. on-tracker k l e ∙ rw (tracker-io (x .block) N k h);
+    tracker-ram = λ k h e. on-tracker k (tracker-holds (x .block) N k h) e ∙ rw (tracker-byte (x .block) (xipOf x) N k h);
+    tracker-rest = λ k h l e. on-tracker k l e ∙ rw (tracker-io (x .block) (xipOf x) N k h);
     process-list = λ k h e.
         let d : a - 0xFFF8_0000 ≡ k = omega arith in given-is 0xFFF80 (omega arith) (process-list-page (x .block) _ q) ∙ rw d;
     nothing-else = λ no-section no-stack no-copy no-tracker no-list.

@@ -1,6 +1,6 @@
 -- What stands at a virtual page, by cases: one rule for every statement about it.
 use mathlib.Core.Path.{_≡_, refl, sym}
-use mathlib.Core.Logic.{_≢_}
+use mathlib.Core.Logic.{_≢_, _⊎_, inl, inr}
 use mathlib.Core.List.{List}
 use mathlib.Core.Bool.{Bool, true, false}
 use Prim.Native.Nat.{ℕ, _+_, _-_, _/_, _≤_, _<_}
@@ -11,8 +11,11 @@ use Rattle.notation.specs.Choice.{choose}
 use Rattle.notation.specs.Lists.{exists}
 use Rattle.rules.specs.Block.{processCount, stackPages, stackFirst, sectionsOf, sectionRecord, firstPage, lastPage, pageCount}
 use Rattle.rules.specs.Space.{Data, sectionPage, trackerPage, processList, blockCopy, Mapping, unmapped, stack, maps, sectionRights, kernelRead, kernelWrite, hasPage, sectionMapping, sectionAtPage, inTracker, kernelPage, inStack, userPage, mappingAt}
+use Rattle.types.specs.declared.PageRange.{PageRange}
+use Rattle.types.specs.declared.Rights.{Rights}
 use Rattle.rules.specs.Order.{holds, pagesTaken, order, slotsOf, inSlots, hasLeaf, dataOwner}
-use Rattle.laws.specs.Choice.{false-not-true, by-test, by-choose, and-left, and-right, and-both, choose-or}
+use Rattle.rules.specs.Load.{physPage, flashPage, dataPage}
+use Rattle.laws.specs.Choice.{false-not-true, by-test, by-choose, choose-yes, choose-no, and-left, and-right, and-both, choose-or}
 use Rattle.laws.specs.Lists.{Occurs, by-find-last, exists-hit, some-of-tab}
 use Rattle.accepted.specs.Sections.{has-page-first, has-page-last}
 use Rattle.order_laws.specs.Uses.{order-section, order-tracker, order-process-list, order-block-copy}
@@ -69,47 +72,94 @@ pub readable : (b : List ℕ) (T q v : ℕ) → Readable (mappingAt b T q v)
 unfolding sectionRights kernelRead kernelWrite
 readable b T q v = by-mapping Readable b T q v tt (λ _ _. tt) (λ _ _ _ _. refl) (λ _ _ _. refl) (λ _. refl) (λ _. refl) (λ _. refl)
 
--- every page of data that stands somewhere is in the order, and stands at its one virtual page
+-- every page of data that stands somewhere is in flash or in the order, and stands at its one virtual page
 unfoldable pub homeOf : List ℕ → Data → ℕ
 homeOf b (sectionPage q j i) = firstPage b (sectionRecord b q j) + i
 homeOf b (trackerPage i) = 0xFFF40 + i
 homeOf b processList = 0xFFF80
 homeOf b blockCopy = 0xFFF00
 
-abbrev pub AtHome : List ℕ → ℕ → ℕ → Mapping → Type 0
-AtHome b T v unmapped = Unit {0}
-AtHome b T v stack = Unit {0}
-AtHome b T v (maps d t) = Occurs (order b T) (holds d) × (homeOf b d ≡ v)
+-- a page of a section that is used in place, and one that is none of these
+abbrev pub Flashed : List ℕ → (ℕ → Bool) → Data → Type 0
+Flashed b xip (sectionPage q j i) =
+    (1 ≤ q) × (q ≤ processCount b) × (j < sectionsOf b q) × (xip (sectionRecord b q j) ≡ true) × (i < pageCount b (sectionRecord b q j))
+Flashed b xip (trackerPage i) = ⊥
+Flashed b xip processList = ⊥
+Flashed b xip blockCopy = ⊥
 
-section-at-home : (b : List ℕ) (T q v j : ℕ) → 1 ≤ q → q ≤ processCount b → j < sectionsOf b q → hasPage b v (sectionRecord b q j) ≡ true
-    → Occurs (order b T) (holds (sectionPage q j (v - firstPage b (sectionRecord b q j)))) × (homeOf b (sectionPage q j (v - firstPage b (sectionRecord b q j))) ≡ v)
-unfolding homeOf pagesTaken pageCount
-section-at-home b T q v j lo hi l e =
+abbrev pub Copied : List ℕ → (ℕ → Bool) → Data → Type 0
+Copied b xip (sectionPage q j i) = xip (sectionRecord b q j) ≡ false
+Copied b xip (trackerPage i) = Unit {0}
+Copied b xip processList = Unit {0}
+Copied b xip blockCopy = Unit {0}
+
+-- each is where the rules put it
+pub copied-page : (b : List ℕ) (xip : ℕ → Bool) (F : ℕ) (ram : PageRange) (d : Data) → Copied b xip d → dataPage b xip F ram d ≡ physPage b xip ram (holds d)
+unfolding dataPage
+copied-page b xip F ram (sectionPage q j i) c = choose-no _ _ c
+copied-page b xip F ram (trackerPage i) c = refl
+copied-page b xip F ram processList c = refl
+copied-page b xip F ram blockCopy c = refl
+
+pub flashed-page : (b : List ℕ) (xip : ℕ → Bool) (F : ℕ) (ram : PageRange) (q j i : ℕ) → xip (sectionRecord b q j) ≡ true
+    → dataPage b xip F ram (sectionPage q j i) ≡ flashPage b F (sectionRecord b q j) i
+unfolding dataPage
+flashed-page b xip F ram q j i e = choose-yes _ _ e
+
+-- a page of data is in flash, or in the order of pages
+abbrev pub Stored : List ℕ → (ℕ → Bool) → ℕ → Data → Type 0
+Stored b xip T d = Flashed b xip d ⊎ (Copied b xip d × Occurs (order b xip T) (holds d))
+
+abbrev pub AtHome : List ℕ → (ℕ → Bool) → ℕ → ℕ → Mapping → Type 0
+AtHome b xip T v unmapped = Unit {0}
+AtHome b xip T v stack = Unit {0}
+AtHome b xip T v (maps d t) = Stored b xip T d × (homeOf b d ≡ v)
+
+section-stored : (b : List ℕ) (xip : ℕ → Bool) (T q j i : ℕ) → 1 ≤ q → q ≤ processCount b → j < sectionsOf b q → i < pageCount b (sectionRecord b q j)
+    → Stored b xip T (sectionPage q j i)
+unfolding pagesTaken
+section-stored b xip T q j i lo hi l h =
+    let n : ℕ = sectionRecord b q j in
+    by-test (λ c. xip n ≡ c → Stored b xip T (sectionPage q j i)) (xip n)
+    (λ _ e. inl (lo, hi, l, e, h))
+    (λ _ e. inr (e, order-section b xip T q j i lo hi l (rw e (rw (choose-no {A = ℕ} {c = false} 0 (pageCount b n) refl) h)))) refl
+
+section-at-home : (b : List ℕ) (xip : ℕ → Bool) (T q v j : ℕ) → 1 ≤ q → q ≤ processCount b → j < sectionsOf b q → hasPage b v (sectionRecord b q j) ≡ true
+    → Stored b xip T (sectionPage q j (v - firstPage b (sectionRecord b q j))) × (homeOf b (sectionPage q j (v - firstPage b (sectionRecord b q j))) ≡ v)
+unfolding homeOf pageCount
+section-at-home b xip T q v j lo hi l e =
     let f : firstPage b (sectionRecord b q j) ≤ v = has-page-first b v _ e in
     let g : v ≤ lastPage b (sectionRecord b q j) = has-page-last b v _ e in
-    (order-section b T q j (v - firstPage b (sectionRecord b q j)) lo hi l (omega arith), omega arith)
+    (section-stored b xip T q j (v - firstPage b (sectionRecord b q j)) lo hi l (omega arith), omega arith)
 
-pub at-home : (b : List ℕ) (T q v : ℕ) → 1 ≤ q → q ≤ processCount b → AtHome b T v (mappingAt b T q v)
+pub at-home : (b : List ℕ) (xip : ℕ → Bool) (T q v : ℕ) → 1 ≤ q → q ≤ processCount b → AtHome b xip T v (mappingAt b T q v)
 unfolding homeOf
-at-home b T q v lo hi =
-    by-mapping (AtHome b T v) b T q v tt (λ _ _. tt)
-    (λ _ j l e. section-at-home b T q v j lo hi l e)
-    (λ j l e. section-at-home b T 1 v j (omega arith) (omega arith) l e)
-    (λ e. (order-block-copy b T, sym e))
-    (λ e. (order-tracker b T (v - 0xFFF40) (omega (arith, in-tracker-first T v e, in-tracker-last T v e)), omega (arith, in-tracker-first T v e)))
-    (λ e. (order-process-list b T, sym e))
+at-home b xip T q v lo hi =
+    by-mapping (AtHome b xip T v) b T q v tt (λ _ _. tt)
+    (λ _ j l e. section-at-home b xip T q v j lo hi l e)
+    (λ j l e. section-at-home b xip T 1 v j (omega arith) (omega arith) l e)
+    (λ e. (inr (tt, order-block-copy b xip T), sym e))
+    (λ e. (inr (tt, order-tracker b xip T (v - 0xFFF40) (omega (arith, in-tracker-first T v e, in-tracker-last T v e))), omega (arith, in-tracker-first T v e)))
+    (λ e. (inr (tt, order-process-list b xip T), sym e))
+
+-- a page of a section has the section's rights
+abbrev pub SectionRights : List ℕ → Data → Rights → Type 0
+SectionRights b (sectionPage q j i) t = t ≡ sectionRights b q (sectionRecord b q j)
+SectionRights b (trackerPage i) t = Unit {0}
+SectionRights b processList t = Unit {0}
+SectionRights b blockCopy t = Unit {0}
 
 -- whose page it is: with the user right the process's own, which is not the kernel; without it the kernel's
-abbrev pub Own : ℕ → Mapping → Type 0
-Own q unmapped = Unit {0}
-Own q stack = Unit {0}
-Own q (maps d t) = (dataOwner d ≡ choose (t .user) q 1) × (t .user ≡ true → q ≢ 1)
+abbrev pub Own : List ℕ → ℕ → Mapping → Type 0
+Own b q unmapped = Unit {0}
+Own b q stack = Unit {0}
+Own b q (maps d t) = (dataOwner d ≡ choose (t .user) q 1) × (t .user ≡ true → q ≢ 1) × SectionRights b d t
 
-pub own : (b : List ℕ) (T q v : ℕ) → Own q (mappingAt b T q v)
+pub own : (b : List ℕ) (T q v : ℕ) → Own b q (mappingAt b T q v)
 unfolding sectionRights kernelRead kernelWrite dataOwner choose
 own b T q v =
-    by-mapping (Own q) b T q v tt (λ _ _. tt) (λ user _ _ _. (rw (ne-eqb q 1 user), λ _. user)) (λ _ _ _. (refl, false-not-true refl))
-    (λ _. (refl, false-not-true refl)) (λ _. (refl, false-not-true refl)) (λ _. (refl, false-not-true refl))
+    by-mapping (Own b q) b T q v tt (λ _ _. tt) (λ user _ _ _. (rw (ne-eqb q 1 user), (λ _. user), refl)) (λ _ _ _. (refl, false-not-true refl, refl))
+    (λ _. (refl, false-not-true refl, tt)) (λ _. (refl, false-not-true refl, tt)) (λ _. (refl, false-not-true refl, tt))
 
 -- WHERE A PROCESS HAS NO LEAF TABLE, NOTHING STANDS
 in-root-slot : (b : List ℕ) (v n : ℕ) → hasPage b v n ≡ true → inSlots (v / 1024) (slotsOf b n) ≡ true

@@ -5,7 +5,7 @@ use mathlib.Core.List.{List, [], _∷_}
 use Prim.Native.Nat.{ℕ, zero, suc, _<_}
 use native.Mathlib.Omega.{arith}
 use lib.ListN.{getD}
-use Rattle.notation.specs.Choice.{choose, any}
+use Rattle.notation.specs.Choice.{choose, any, all}
 
 -- by cases on a test, with the equation
 pub by-test : (P : Bool → Type 0) (c : Bool) → (c ≡ true → P true) → (c ≡ false → P false) → P c
@@ -96,3 +96,17 @@ unfolding any
 any-none [] e i = refl
 any-none (t ∷ ts) e zero = or-left t (any ts) e
 any-none (t ∷ ts) e (suc i) = any-none ts (or-right t (any ts) e) i
+
+-- test i of a list of tests all of which pass
+pub all-pass : (ts : List Bool) → all ts ≡ true → (i : ℕ) → getD ts i true ≡ true
+unfolding all
+all-pass [] e i = refl
+all-pass (t ∷ ts) e zero = and-left t (all ts) e
+all-pass (t ∷ ts) e (suc i) = all-pass ts (and-right t (all ts) e) i
+
+-- a list of tests one of which does not pass
+pub all-fails : (ts : List Bool) (i : ℕ) → getD ts i true ≡ false → all ts ≡ false
+unfolding all
+all-fails [] i e = e
+all-fails (t ∷ ts) zero e = and-not-left (all ts) e
+all-fails (t ∷ ts) (suc i) e = and-not-right t (all-fails ts i e)

@@ -1,6 +1,7 @@
-// listing BLOCK FLASH START PAGES: loads a boot block file and a flash file into RAM of so many pages, which starts at physical
-// address START, and prints the listing of 01. With no arguments it lists the small board; with -h or --help alone it prints how
-// it is called. What is wrong with an argument is said in one line on standard error, and nothing else is printed.
+// listing BLOCK FLASH START PAGES [FLASH_START]: loads a boot block file and a flash file, which starts at physical address
+// FLASH_START, into RAM of so many pages, which starts at physical address START, and prints the listing of 01. With no arguments it
+// lists the small board; with -h or --help alone it prints how it is called. What is wrong with an argument is said in one line on
+// standard error, and nothing else is printed.
 ghost use mathlib.Core.Path.{_≡_};
 ghost use lib.ListN.{length};
 ghost use Prim.Native.Nat.{_≤_};
@@ -10,6 +11,9 @@ use numerals::Number;
 
 // RAM's pages at most.
 const PAGES: u32 = 16;
+
+// Where flash starts if no argument says so.
+const FLASH_START: u32 = 0x2000_0000;
 
 // The bytes of a file, put at the start of a buffer; or the file is longer than the buffer, which is full then; or it was said
 // why the file cannot be read.
@@ -42,18 +46,24 @@ fn fail_on(name: &[u8]) {
 }
 
 // Loads, and prints the listing. RAM has 16 pages at most.
-fn list(block: &[u8], flash: &[u8], start: u32, pages: u32) {
+fn list(block: &[u8], flash: &[u8], flash_start: u32, start: u32, pages: u32) {
     let mut ram = io::large_buffer();
     let end = numbers::least(4096 * (pages as usize), 65536);
     // 16 processes have less text than that.
     let mut text = [0u8; 1024];
-    let n = report::load_listing(block, flash, &mut ram[..end], start, &mut text);
+    let n = report::load_listing(block, flash, flash_start, &mut ram[..end], start, &mut text);
     print(slices::part(&text, 0, n));
 }
 
 fn list_small_board() {
     let flash = [0u8; small_block::FLASH];
-    list(&small_block::block(), &flash, small_block::START, PAGES);
+    list(
+        &small_block::block(),
+        &flash,
+        FLASH_START,
+        small_block::START,
+        PAGES,
+    );
 }
 
 // What is left to read shows whether the file ended, goes on or cannot be read.
@@ -98,6 +108,17 @@ fn number_argument(i: usize, line: &[u8]) -> Number {
     number
 }
 
+// Argument 5 may be left out.
+fn flash_start_argument() -> Number {
+    if os::arg_count() < 6 {
+        return Number::Value(FLASH_START);
+    }
+    number_argument(
+        5,
+        b"listing: FLASH_START: not a number below 2^32, decimal or hexadecimal after 0x\n",
+    )
+}
+
 fn list_on_board(block: &[u8], flash: &[u8]) {
     let start = number_argument(
         3,
@@ -117,7 +138,11 @@ fn list_on_board(block: &[u8], flash: &[u8]) {
         complain(b"listing: PAGES: over 16\n");
         return;
     }
-    list(block, flash, address, pages);
+    let flash_place = flash_start_argument();
+    let Number::Value(flash_address) = flash_place else {
+        return;
+    };
+    list(block, flash, flash_address, address, pages);
 }
 
 // A flash file has at most so many bytes.
@@ -175,13 +200,14 @@ fn list_arguments() {
 
 fn print_help() {
     print(
-        b"listing BLOCK FLASH START PAGES\n\
+        b"listing BLOCK FLASH START PAGES [FLASH_START]\n\
           Loads a boot block and a flash image into RAM, and prints the boot, or the refusal's number, place and byte in the block.\n\
           BLOCK: the boot block file\n\
           FLASH: the flash file, of at most 262,144 bytes\n\
           START: the physical address at which RAM starts, below 2^32\n\
           PAGES: how many pages of 4,096 bytes RAM has, at most 16\n\
-          START and PAGES are decimal, or hexadecimal after 0x.\n\
+          FLASH_START: the physical address at which flash starts, below 2^32; 0x20000000 where it is left out\n\
+          START, PAGES and FLASH_START are decimal, or hexadecimal after 0x.\n\
           Without arguments it loads 01's small board. With -h or --help alone it prints this.\n",
     );
 }
@@ -213,11 +239,11 @@ fn help_asked() -> bool {
 // Of 2, 3 or 4 arguments, the program's own name among them.
 fn complain_missing(count: usize) {
     if count == 2 {
-        complain(b"listing: FLASH is missing: listing BLOCK FLASH START PAGES\n");
+        complain(b"listing: FLASH is missing: listing BLOCK FLASH START PAGES [FLASH_START]\n");
     } else if count == 3 {
-        complain(b"listing: START is missing: listing BLOCK FLASH START PAGES\n");
+        complain(b"listing: START is missing: listing BLOCK FLASH START PAGES [FLASH_START]\n");
     } else {
-        complain(b"listing: PAGES is missing: listing BLOCK FLASH START PAGES\n");
+        complain(b"listing: PAGES is missing: listing BLOCK FLASH START PAGES [FLASH_START]\n");
     }
 }
 
@@ -238,8 +264,8 @@ fn main() {
         complain_missing(count);
         return;
     }
-    if count > 5 {
-        complain(b"listing: too many arguments: listing BLOCK FLASH START PAGES\n");
+    if count > 6 {
+        complain(b"listing: too many arguments: listing BLOCK FLASH START PAGES [FLASH_START]\n");
         return;
     }
     list_arguments();

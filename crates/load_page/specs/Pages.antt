@@ -18,7 +18,7 @@ pageOf r f i k =
     let offset = r .address % 4096 in
     choose (r .«no_copy») 0 (choose (leb offset at && ltb at (offset + r .size)) (getD f (r .«flash_offset» + (at - offset)) 0) 0)
 
-pub page-of-record : {b : List ℕ} {n : ℕ} {r : Section} (f : List ℕ) (i k : ℕ) → IsSection b n r
-    → pageOf r f i k ≡ sectionPageByte (imageOf b f) n i k
+pub page-of-record : {b : List ℕ} {n : ℕ} {r : Section} (start : ℕ) (f : List ℕ) (i k : ℕ) → IsSection b n r
+    → pageOf r f i k ≡ sectionPageByte (imageOf b start f) n i k
 unfolding pageOf sectionPageByte
-page-of-record f i k s = rw (s .no-copy, s .address-is, s .size-is, s .flash-offset)
+page-of-record start f i k s = rw (s .no-copy, s .address-is, s .size-is, s .flash-offset)

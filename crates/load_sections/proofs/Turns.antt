@@ -6,12 +6,12 @@ use Prim.Native.Nat.{ℕ, _+_, _-_, _*_, _≤_}
 use native.Mathlib.Omega.{arith}
 use lib.Dec.{leb}
 use borrow.Author.Tests.{leb-true}
+use Rattle.notation.specs.Choice.{choose}
 use Rattle.notation.specs.Lists.{gather}
 use Rattle.laws.specs.Choice.{choose-yes, and-left, and-right}
-use Rattle.rules.specs.Lent.{Image}
 use Rattle.rules.specs.Block.{processCount, sectionsOf, sectionRecord, firstSection}
 use Rattle.rules.specs.Space.{sectionPage}
-use Rattle.rules.specs.Order.{Use, holds, sectionPages, sectionUses, allSections}
+use Rattle.rules.specs.Order.{Use, holds, pagesTaken, sectionPages, sectionUses, allSections}
 use Rattle.writing.specs.Pages.{put, put-length}
 use Rattle.writing.specs.Uses.{Wrote, wrote-page, wrote-then, wrote-tab-none, wrote-tab-next}
 use Rattle.writing.specs.Loaded.{sectionContent, section-content}
@@ -44,31 +44,31 @@ module _ {f : ℕ → ℕ → ℕ} where
   pages-all i count w e = rw e at w
 
 -- pages of zeros that a section without a copy has
-pub pages-cleared : (s : Section) (f : List ℕ) {r₀ : List ℕ} {n₀ : ℕ} {r : List ℕ} {n : ℕ} → s .«no_copy» ≡ true
-    → WrotePages (λ i o. 0) (s .pages) r₀ n₀ r n → WrotePages (pageOf s f) (s .pages) r₀ n₀ r n
+pub pages-cleared : (s : Section) (f : List ℕ) (count : ℕ) {r₀ : List ℕ} {n₀ : ℕ} {r : List ℕ} {n : ℕ} → s .«no_copy» ≡ true
+    → WrotePages (λ i o. 0) count r₀ n₀ r n → WrotePages (pageOf s f) count r₀ n₀ r n
 unfolding pageOf
-pages-cleared s f c w = record { long = w .long; left = w .left; uses = λ d u e. w .uses d u (λ i o h. sym (choose-yes _ _ c) ∙ e i o h) }
+pages-cleared s f count c w = record { long = w .long; left = w .left; uses = λ d u e. w .uses d u (λ i o h. sym (choose-yes _ _ c) ∙ e i o h) }
 
 -- page i of section j of process q
 abbrev pub pageUse : ℕ → ℕ → ℕ → Use
 pageUse q j i = holds (sectionPage q j i)
 
-module _ (x : Image) {r₀ : List ℕ} {n₀ : ℕ} {r : List ℕ} {n : ℕ} where
+module _ (b flash : List ℕ) (xip : ℕ → Bool) {r₀ : List ℕ} {n₀ : ℕ} {r : List ℕ} {n : ℕ} where
   -- a section's pages, as its record has them
-  pub section-end : (q j m : ℕ) (s : Section) → IsSection (x .block) m s → m ≡ firstSection (x .block) q + j
-      → WrotePages (pageOf s (x .flash)) (s .pages) r₀ n₀ r n
-      → Wrote (sectionContent x) (sectionPages (x .block) q j) r₀ n₀ r n
-  unfolding sectionPages sectionRecord
-  section-end q j m s is e w =
-      rw (← e, ← is .pages-taken) (w .uses (sectionContent x) (pageUse q j) (λ i o _. page-of-record (x .flash) i o is ∙ rw e (sym (section-content x q j i o))))
+  pub section-end : (q j m taken : ℕ) (s : Section) → IsSection b m s → m ≡ firstSection b q + j → taken ≡ choose (xip m) 0 (s .pages)
+      → WrotePages (pageOf s flash) taken r₀ n₀ r n
+      → Wrote (sectionContent b flash) (sectionPages b xip q j) r₀ n₀ r n
+  unfolding sectionPages sectionRecord pagesTaken
+  section-end q j m taken s is e t w =
+      rw (← e, ← is .page-count, ← t) (w .uses (sectionContent b flash) (pageUse q j) (λ i o _. page-of-record 0 flash i o is ∙ rw e (sym (section-content b flash 0 q j i o))))
 
-  pub process-end : (q j : ℕ) → Wrote (sectionContent x) (gather j (sectionPages (x .block) q)) r₀ n₀ r n → j ≡ sectionsOf (x .block) q
-      → Wrote (sectionContent x) (sectionUses (x .block) q) r₀ n₀ r n
+  pub process-end : (q j : ℕ) → Wrote (sectionContent b flash) (gather j (sectionPages b xip q)) r₀ n₀ r n → j ≡ sectionsOf b q
+      → Wrote (sectionContent b flash) (sectionUses b xip q) r₀ n₀ r n
   unfolding sectionUses
   process-end q j w e = rw (← e) w
 
-  pub sections-end : (i : ℕ) {r′ : List ℕ} {n′ : ℕ} → Wrote (sectionContent x) (gather i (λ i. sectionUses (x .block) (i + 2))) r₀ n₀ r n
-      → i ≡ processCount (x .block) - 1 → Wrote (sectionContent x) (sectionUses (x .block) 1) r n r′ n′
-      → Wrote (sectionContent x) (allSections (x .block)) r₀ n₀ r′ n′
+  pub sections-end : (i : ℕ) {r′ : List ℕ} {n′ : ℕ} → Wrote (sectionContent b flash) (gather i (λ i. sectionUses b xip (i + 2))) r₀ n₀ r n
+      → i ≡ processCount b - 1 → Wrote (sectionContent b flash) (sectionUses b xip 1) r n r′ n′
+      → Wrote (sectionContent b flash) (allSections b xip) r₀ n₀ r′ n′
   unfolding allSections
   sections-end i w e v = rw (← e) (wrote-then w v)

@@ -1,14 +1,15 @@
-// The pages of all sections, loaded into RAM from the top down. RAM may be any bytes: a page that it has not is left out.
+// The pages of all sections, loaded into RAM from the top down. RAM may be any bytes: a page that it has not is left out. `xip` marks the
+// sections that are used in place: they take no page.
 ghost use mathlib.Core.Path.{_≡_};
 ghost use mathlib.Core.Bool.{_&&_};
 ghost use Prim.Native.Nat.{_+_, _*_, _≤_};
 ghost use lib.Dec.{leb};
 ghost use lib.ListN.{length};
-ghost use Rattle.rules.specs.Lent.{imageOf};
 ghost use Rattle.rules.specs.Order.{sectionPages, sectionUses, allSections};
 ghost use Rattle.writing.specs.Pages.{put};
 ghost use Rattle.writing.specs.Uses.{Wrote};
 ghost use Rattle.writing.specs.Loaded.{sectionContent};
+ghost use Rattle.xip_sections.specs.Marks.{marked};
 ghost use Rattle.load_page.specs.Pages.{pageOf};
 ghost use Rattle.load_sections.specs.Pages.{WrotePages};
 use block_records::Section;
@@ -25,11 +26,16 @@ fn load_page(ram: &mut [u8], k: RamPage, section: Section, flash: &[u8], i: u32)
     load_page::section_page(page, section, flash, i);
 }
 
-// All pages of a section.
-fn load_pages(ram: &mut [u8], section: Section, flash: &[u8], from: PageAllocator) -> PageAllocator
-    ensures { λ r. ⌜ WrotePages (pageOf section (now (flash .entry))) (section .pages) (now (ram .entry)) (from .left) (now (ram .exit)) (r .left) ⌝ }
+// The first `count` pages of a section.
+fn load_pages(
+    ram: &mut [u8],
+    section: Section,
+    flash: &[u8],
+    count: u32,
+    from: PageAllocator,
+) -> PageAllocator
+    ensures { λ r. ⌜ WrotePages (pageOf section (now (flash .entry))) count (now (ram .entry)) (from .left) (now (ram .exit)) (r .left) ⌝ }
 {
-    let count = section.pages;
     let mut next = from;
     let mut i: u32 = 0;
     while i < count {
@@ -74,24 +80,27 @@ fn has_pages(bytes: usize, count: u32, from: PageAllocator) -> bool
     numbers::both(count <= from.left, 4096 * (from.left as usize) <= bytes)
 }
 
-// Section j, counted from 0, of process q.
+// Section j, counted from 0, of process q: no page of it where it is used in place.
 fn load_section(
     ram: &mut [u8],
     block: &[u8],
     flash: &[u8],
+    xip: &[u8],
     q: u32,
     j: u32,
     from: PageAllocator,
 ) -> PageAllocator
-    ensures { λ r. ⌜ Wrote (sectionContent (imageOf (now (block .entry)) (now (flash .entry)))) (sectionPages (now (block .entry)) q j)
+    ensures { λ r. ⌜ Wrote (sectionContent (now (block .entry)) (now (flash .entry))) (sectionPages (now (block .entry)) (marked (now (xip .entry))) q j)
         (now (ram .entry)) (from .left) (now (ram .exit)) (r .left) ⌝ }
 {
     let process = block_records::read_process(block, q);
-    let section = block_records::read_section(block, process.first_section as usize + j as usize);
-    if numbers::both(section.no_copy, has_pages(ram.len(), section.pages, from)) {
-        return clear_pages(ram, section.pages, from);
+    let n = process.first_section as usize + j as usize;
+    let section = block_records::read_section(block, n);
+    let pages = xip_sections::pages_taken(xip, n, section.pages);
+    if numbers::both(section.no_copy, has_pages(ram.len(), pages, from)) {
+        return clear_pages(ram, pages, from);
     }
-    load_pages(ram, section, flash, from)
+    load_pages(ram, section, flash, pages, from)
 }
 
 // All sections of process q.
@@ -99,10 +108,11 @@ fn load_process(
     ram: &mut [u8],
     block: &[u8],
     flash: &[u8],
+    xip: &[u8],
     q: u32,
     from: PageAllocator,
 ) -> PageAllocator
-    ensures { λ r. ⌜ Wrote (sectionContent (imageOf (now (block .entry)) (now (flash .entry)))) (sectionUses (now (block .entry)) q)
+    ensures { λ r. ⌜ Wrote (sectionContent (now (block .entry)) (now (flash .entry))) (sectionUses (now (block .entry)) (marked (now (xip .entry))) q)
         (now (ram .entry)) (from .left) (now (ram .exit)) (r .left) ⌝ }
 {
     let process = block_records::read_process(block, q);
@@ -110,7 +120,7 @@ fn load_process(
     let mut next = from;
     let mut j: u32 = 0;
     while j < count {
-        next = load_section(ram, block, flash, q, j, next);
+        next = load_section(ram, block, flash, xip, q, j, next);
         j += 1;
     }
     next
@@ -121,17 +131,18 @@ pub fn load_sections(
     ram: &mut [u8],
     block: &[u8],
     flash: &[u8],
+    xip: &[u8],
     from: PageAllocator,
 ) -> PageAllocator
-    ensures { λ r. ⌜ Wrote (sectionContent (imageOf (now (block .entry)) (now (flash .entry)))) (allSections (now (block .entry)))
+    ensures { λ r. ⌜ Wrote (sectionContent (now (block .entry)) (now (flash .entry))) (allSections (now (block .entry)) (marked (now (xip .entry))))
         (now (ram .entry)) (from .left) (now (ram .exit)) (r .left) ⌝ }
 {
     let users = numbers::minus(block_header::process_count(block) as usize, 1) as u32;
     let mut next = from;
     let mut i: u32 = 0;
     while i < users {
-        next = load_process(ram, block, flash, i + 2, next);
+        next = load_process(ram, block, flash, xip, i + 2, next);
         i += 1;
     }
-    load_process(ram, block, flash, 1, next)
+    load_process(ram, block, flash, xip, 1, next)
 }

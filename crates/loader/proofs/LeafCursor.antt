@@ -11,7 +11,7 @@ use borrow.Author.Tests.{eq-eqb, ne-eqb, eqb-true, le-leb, lt-leb}
 use Rattle.notation.specs.Choice.{choose}
 use Rattle.notation.specs.Lists.{exists}
 use Rattle.rules.specs.Block.{firstSection, sectionsOf, sectionRecord, firstPage, lastPage}
-use Rattle.rules.specs.Order.{slotsOf, inSlots, hasLeaf}
+use Rattle.rules.specs.Order.{pagesTaken, slotsOf, inSlots, hasLeaf}
 use Rattle.laws.specs.Choice.{false-not-true, by-choose, choose-yes, choose-no, choose-lt, and-both, and-not-left, and-not-right}
 use Rattle.laws.specs.Lists.{exists-hit, some-of-tab}
 use Rattle.laws.specs.Counts.{sum-le}
@@ -39,9 +39,9 @@ unfolding exists
 exists-no t zero h = refl
 exists-no t (suc n) h = choose-no _ _ (h n (omega arith)) ∙ exists-no t n (λ j l. h j (omega arith))
 
-pub pages-before-le : (b : List ℕ) (q m n : ℕ) → m ≤ n → pagesBefore b q m ≤ pagesBefore b q n
+pub pages-before-le : (b : List ℕ) (xip : ℕ → Bool) (q m n : ℕ) → m ≤ n → pagesBefore b xip q m ≤ pagesBefore b xip q n
 unfolding pagesBefore
-pages-before-le b q m n h = sum-le m n _ h
+pages-before-le b xip q m n h = sum-le m n _ h
 
 pub kernel-slot : (b : List ℕ) (q k : ℕ) → q ≡ 1 → hasLeaf b q k ≡ true → k ≡ 1023
 unfolding hasLeaf choose
@@ -71,7 +71,7 @@ module _ (b : List ℕ) (q j : ℕ) where
   inside k f t = and-both (le-leb from k f) (le-leb k to t)
 
 -- the slots after one that is passed
-pub passed-later : {b : List ℕ} {q m j place : ℕ} (n : ℕ) → Passed b q m j place → m ≤ n → Passed b q n j place
+pub passed-later : {b : List ℕ} {xip : ℕ → Bool} {q m j place : ℕ} (n : ℕ) → Passed b xip q m j place → m ≤ n → Passed b xip q n j place
 passed-later n p h = record { inside = p .inside; below = λ k a. omega (arith, p .below k a); at-place = p .at-place }
 
 -- WHICH LEAF TABLES THERE ARE
@@ -82,7 +82,7 @@ own-leaf b q = elim (ℕ-discrete q 1) [
   | no e ↦ choose-no _ _ (ne-eqb q 1 e) ∙ choose-yes _ _ (eq-eqb (ownSlot q) 511 (own-user q e))
 ]
 
-module _ {b : List ℕ} {q : ℕ} (w : Walkable b q) where
+module _ {b : List ℕ} {xip : ℕ → Bool} {q : ℕ} (w : Walkable b xip q) where
   section-leaf : (j k : ℕ) → j < sectionsOf b q → from b q j ≤ k → k ≤ to b q j → hasLeaf b q k ≡ true
   unfolding hasLeaf
   section-leaf j k h f t = elim (ℕ-discrete q 1) [
@@ -112,7 +112,7 @@ module _ {b : List ℕ} {q : ℕ} (w : Walkable b q) where
 
   -- THE WALK
   -- section j does not end below slot m: the next leaf table is its first from m on
-  found : {m j place r : ℕ} → Passed b q m j place → j < sectionsOf b q → m ≤ to b q j → r ≡ max m (from b q j) → LeafFrom b q m r j place
+  found : {m j place r : ℕ} → Passed b xip q m j place → j < sectionsOf b q → m ≤ to b q j → r ≡ max m (from b q j) → LeafFrom b xip q m r j place
   found {m} {j} {place} {r} p h l e =
       let own = w .rising .up-to q j (w .low) (w .high) h in
       let up = w .rising .ends q j (w .low) (w .high) h in
@@ -133,13 +133,13 @@ module _ {b : List ℕ} {q : ℕ} (w : Walkable b q) where
         passed = passed-later r p (omega arith);
       }
 
-  pub leaf-found : {m j place r first : ℕ} {s : Section} → Passed b q m j place → j < sectionsOf b q → first ≡ firstSection b q → IsSection b (first + j) s
-      → m ≤ s .«last_page» .0 / 1024 → r ≡ max m (s .«first_page» .0 / 1024) → LeafFrom b q m r j place
+  pub leaf-found : {m j place r first : ℕ} {s : Section} → Passed b xip q m j place → j < sectionsOf b q → first ≡ firstSection b q → IsSection b (first + j) s
+      → m ≤ s .«last_page» .0 / 1024 → r ≡ max m (s .«first_page» .0 / 1024) → LeafFrom b xip q m r j place
   unfolding sectionRecord
   leaf-found p h f is l e = found p h (rw (is .last-page, f) at l) (rw (is .first-page, f) at e)
 
   -- all sections end below slot m: the next leaf table is the process's own, if it does not
-  pub leaf-own : {m j place r s : ℕ} → Passed b q m j place → j ≡ sectionsOf b q → s ≡ ownSlot q → (s < m → r ≡ 1024) → (m ≤ s → r ≡ s) → LeafFrom b q m r j place
+  pub leaf-own : {m j place r s : ℕ} → Passed b xip q m j place → j ≡ sectionsOf b q → s ≡ ownSlot q → (s < m → r ≡ 1024) → (m ≤ s → r ≡ s) → LeafFrom b xip q m r j place
   leaf-own {m} {j} {place} {r} {s} p e own past here =
       let none : (k : ℕ) → m ≤ k → (i : ℕ) → i < sectionsOf b q → at b q i k ≡ false = λ k a i n. not-above b q i k (omega (arith, p .below i (omega arith))) in
       elim (decLt s m) [
@@ -162,19 +162,19 @@ module _ {b : List ℕ} {q : ℕ} (w : Walkable b q) where
         }
       ]
 
-  pub passed-room : {m j place : ℕ} → Passed b q m j place → place ≤ 4096
+  pub passed-room : {m j place : ℕ} → Passed b xip q m j place → place ≤ 4096
   unfolding processPages
-  passed-room {j = j} p = omega (arith, p .at-place, w .room, pages-before-le b q j (sectionsOf b q) (p .inside))
+  passed-room {j = j} p = omega (arith, p .at-place, w .room, pages-before-le b xip q j (sectionsOf b q) (p .inside))
 
 -- from the first section, and one section more that ends below the slot
-pub passed-none : {b : List ℕ} {q place : ℕ} (m : ℕ) → place ≡ sectionPlace b q → Passed b q m 0 place
-passed-none {b} {q} m e = record { inside = omega arith; below = λ k h. absurd (omega arith); at-place = omega (arith, pages-before-none b q) }
+pub passed-none : {b : List ℕ} {xip : ℕ → Bool} {q place : ℕ} (m : ℕ) → place ≡ sectionPlace b xip q → Passed b xip q m 0 place
+passed-none {b} {xip} {q} m e = record { inside = omega arith; below = λ k h. absurd (omega arith); at-place = omega (arith, pages-before-none b xip q) }
 
-pub passed-more : {b : List ℕ} {q m j place first : ℕ} {s : Section} → Passed b q m j place → j < sectionsOf b q → first ≡ firstSection b q
-    → IsSection b (first + j) s → s .«last_page» .0 / 1024 < m → Passed b q m (j + 1) (place + s .pages)
-unfolding sectionRecord
-passed-more {b} {q} {m} {j} p h f is l = record {
+pub passed-more : {b : List ℕ} {xip : ℕ → Bool} {q m j place first taken : ℕ} {s : Section} → Passed b xip q m j place → j < sectionsOf b q → first ≡ firstSection b q
+    → IsSection b (first + j) s → s .«last_page» .0 / 1024 < m → taken ≡ choose (xip (first + j)) 0 (s .pages) → Passed b xip q m (j + 1) (place + taken)
+unfolding sectionRecord pagesTaken
+passed-more {b} {xip} {q} {m} {j} p h f is l t = record {
   inside = omega arith;
   below = λ k a. elim (ℕ-discrete k j) [ yes e ↦ rw e (rw (is .last-page, f) at l) | no e ↦ p .below k (omega arith) ];
-  at-place = omega (arith, p .at-place, pages-before-next b q j, rw f at (is .pages-taken));
+  at-place = omega (arith, p .at-place, pages-before-next b xip q j, rw (is .page-count, f) at t);
 }

@@ -1,6 +1,7 @@
 -- The process list's bytes: word by word, and the page of each root table.
 use mathlib.Core.Path.{_≡_, refl, _∙_}
 use mathlib.Core.List.{List}
+use mathlib.Core.Bool.{Bool}
 use Prim.Native.Nat.{ℕ, _+_, _-_, _*_, _/_, _%_, _≤_, _<_}
 use native.Mathlib.Omega.{arith}
 use lib.ListN.{length, take, drop, length-take, length-drop}
@@ -23,10 +24,10 @@ use Rattle.writing.specs.Pages.{put, put-part}
 use Rattle.accepted.specs.Fits.{Fits}
 
 -- ROOTS
-module _ {b : List ℕ} {ram : PageRange} (f : Fits b ram) where
+module _ {b : List ℕ} {xip : ℕ → Bool} {ram : PageRange} (f : Fits b xip ram) where
   -- the place after the tables of i processes
   abbrev rootAfter : ℕ → ℕ
-  rootAfter i = rootPlace b (trackerPages b (ram .pages)) (i + 1)
+  rootAfter i = rootPlace b xip (trackerPages b (ram .pages)) (i + 1)
 
   pub root-next : (i : ℕ) {place count : ℕ} → place ≡ rootAfter i → count ≡ length (tableUses b (i + 1)) → place + count ≡ rootAfter (i + 1)
   unfolding rootPlace
@@ -36,7 +37,7 @@ module _ {b : List ℕ} {ram : PageRange} (f : Fits b ram) where
       rw (e, c, z, s) (omega (arith, tables-before-next b i, table-uses-length b (i + 1)))
 
   pub tables-fit : (i : ℕ) {place count : ℕ} → i < processCount b → place ≡ rootAfter i → count ≡ length (tableUses b (i + 1)) → place + count ≤ ram .pages
-  tables-fit i h e c = omega (arith, tables-room b (ram .pages) (i + 1) (f .enough) (omega arith) (omega arith), table-uses-length b (i + 1))
+  tables-fit i h e c = omega (arith, tables-room b xip (ram .pages) (i + 1) (f .enough) (omega arith) (omega arith), table-uses-length b (i + 1))
 
   pub root-fits : (i : ℕ) {place : ℕ} → i < processCount b → place ≡ rootAfter i → place < ram .pages
   unfolding tableCount
@@ -44,20 +45,20 @@ module _ {b : List ℕ} {ram : PageRange} (f : Fits b ram) where
 
   -- satp, from the place of the root
   pub satp-is : (i : ℕ) {place root : ℕ} → i < processCount b → place ≡ rootAfter i → root ≡ ram .base + (ram .pages - 1 - place)
-      → satpOf (i + 1) root ≡ satpWord b ram (i + 1)
+      → satpOf (i + 1) root ≡ satpWord b xip ram (i + 1)
   unfolding satpWord physPage
   satp-is i h e r =
-      let p = ram-page-at b (ram .pages) (rootTable (i + 1)) _ (place-root b (trackerPages b (ram .pages)) (i + 1) (omega arith) (omega arith)) in
+      let p = ram-page-at b xip (ram .pages) (rootTable (i + 1)) _ (place-root b xip (trackerPages b (ram .pages)) (i + 1) (omega arith) (omega arith)) in
       rw (r, e, p) refl
 
-  module _ {left : ℕ} (e : left ≡ ram .pages - (trackerPlace b + trackerPages b (ram .pages))) where
+  module _ {left : ℕ} (e : left ≡ ram .pages - (trackerPlace b xip + trackerPages b (ram .pages))) where
     -- the list's page is inside RAM of n bytes, which has the pages that are left
     pub list-fits : {k n : ℕ} → k ≡ left - 1 → 4096 * left ≤ n → k * 4096 + 4096 ≤ n
-    list-fits p h = omega (arith, f .enough, needed-parts b (ram .pages))
+    list-fits p h = omega (arith, f .enough, needed-parts b xip (ram .pages))
 
-    pub first-root : ram .pages - left + 2 ≡ rootPlace b (trackerPages b (ram .pages)) 1
+    pub first-root : ram .pages - left + 2 ≡ rootPlace b xip (trackerPages b (ram .pages)) 1
     unfolding rootPlace
-    first-root = omega (arith, f .enough, needed-parts b (ram .pages), tables-before-none b)
+    first-root = omega (arith, f .enough, needed-parts b xip (ram .pages), tables-before-none b)
 
 -- WORDS
 -- three words, one after the other

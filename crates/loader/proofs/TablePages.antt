@@ -1,6 +1,6 @@
 -- The pages of root and leaf tables, written.
 use mathlib.Core.Path.{_≡_, refl, sym, ap, _∙_}
-use mathlib.Core.Bool.{true, false}
+use mathlib.Core.Bool.{Bool, true, false}
 use mathlib.Core.List.{List, [], _∷_, append-nil}
 use Prim.Native.Nat.{ℕ, zero, suc, _+_, _-_, _*_, _/_, _%_, _≤_, _<_, min}
 use native.Mathlib.Nat.{mod-eq-of-lt}
@@ -17,7 +17,7 @@ use Rattle.rules.specs.Block.{processCount}
 use Rattle.rules.specs.Order.{Use, rootTable, leafTable, hasLeaf, tableUses, allTables, trackerPages, ramPage}
 use Rattle.rules.specs.Entries.{pointerEntry, absentEntry}
 use Rattle.rules.specs.Tables.{rootEntry, leafEntry}
-use Rattle.rules.specs.Load.{physPage, tableByte, pageByte}
+use Rattle.rules.specs.Load.{physPage, dataPage, tableByte, pageByte}
 use Rattle.laws.specs.Choice.{by-test, choose-yes, choose-no}
 use Rattle.laws.specs.Lists.{tab-length, tab-get, tab-by, tab-same, gather-next}
 use Rattle.laws.specs.Counts.{one, one-yes, one-no, sum-at, sum-zero}
@@ -59,16 +59,16 @@ unfolding tab
 blank = refl
 
 -- ONE LEAF TABLE
-pub leaf-page : (b : List ℕ) (ram : PageRange) (q m : ℕ) (r e : List ℕ) {r′ : List ℕ} (k : ℕ)
-    → e ≡ tab 1024 (leafEntry b (trackerPages b (ram .pages)) (physPage b ram) q m)
-    → r′ ≡ put r k (tableByte (λ i. getD e i 0)) → r′ ≡ put r k (tableByte (leafEntry b (trackerPages b (ram .pages)) (physPage b ram) q m))
-leaf-page b ram q m r e k t p = p ∙ table-put r k _ _ (λ i h. rw t (tab-get 1024 _ i 0 h))
+pub leaf-page : (b : List ℕ) (xip : ℕ → Bool) (start : ℕ) (ram : PageRange) (q m : ℕ) (r e : List ℕ) {r′ : List ℕ} (k : ℕ)
+    → e ≡ tab 1024 (leafEntry b (trackerPages b (ram .pages)) (dataPage b xip (start / 4096) ram) q m)
+    → r′ ≡ put r k (tableByte (λ i. getD e i 0)) → r′ ≡ put r k (tableByte (leafEntry b (trackerPages b (ram .pages)) (dataPage b xip (start / 4096) ram) q m))
+leaf-page b xip start ram q m r e k t p = p ∙ table-put r k _ _ (λ i h. rw t (tab-get 1024 _ i 0 h))
 
-pub one-leaf : (b : List ℕ) (ram : PageRange) (q m : ℕ) (r : List ℕ) (n : ℕ) {r′ : List ℕ} {n′ k : ℕ} → hasLeaf b q m ≡ true
-    → n′ ≡ n - 1 → k ≡ n - 1 → r′ ≡ put r k (tableByte (leafEntry b (trackerPages b (ram .pages)) (physPage b ram) q m))
-    → WroteAny b ram (leafUses b q m) r n r′ n′
+pub one-leaf : (b : List ℕ) (xip : ℕ → Bool) (start : ℕ) (ram : PageRange) (q m : ℕ) (r : List ℕ) (n : ℕ) {r′ : List ℕ} {n′ k : ℕ} → hasLeaf b q m ≡ true
+    → n′ ≡ n - 1 → k ≡ n - 1 → r′ ≡ put r k (tableByte (leafEntry b (trackerPages b (ram .pages)) (dataPage b xip (start / 4096) ram) q m))
+    → WroteAny b xip start ram (leafUses b q m) r n r′ n′
 unfolding leafUses choose content pageByte
-one-leaf b ram q m r n e l k p = rw e (wrote-any (λ flash. wrote-page (leafTable q m) _ l k p (λ o _. refl)))
+one-leaf b xip start ram q m r n e l k p = rw e (wrote-any (λ flash. wrote-page (leafTable q m) _ l k p (λ o _. refl)))
 
 -- FROM ONE LEAF TO THE NEXT
 gather-skip : {A : Type 0} (f : ℕ → List A) (a d : ℕ) → ((k : ℕ) → a ≤ k → k < a + d → f k ≡ []) → gather (a + d) f ≡ gather a f
@@ -78,10 +78,10 @@ gather-skip f a (suc d) h =
     rw (e, gather-next (a + d) f, h (a + d) (omega arith) (omega arith), append-nil) (gather-skip f a d (λ k l m. h k l (omega arith)))
 
 -- a leaf table after those below root slot m, and none up to the next
-pub next-leaves : (b : List ℕ) (ram : PageRange) (q : ℕ) {m r : ℕ} {d₀ : List ℕ} {n₀ : ℕ} {d : List ℕ} {n : ℕ} → First (hasLeaf b q) m r → m ≤ 1024
-    → WroteAny b ram (gather m (leafUses b q)) d₀ n₀ d n → WroteAny b ram (gather r (leafUses b q)) d₀ n₀ d n
+pub next-leaves : (b : List ℕ) (xip : ℕ → Bool) (start : ℕ) (ram : PageRange) (q : ℕ) {m r : ℕ} {d₀ : List ℕ} {n₀ : ℕ} {d : List ℕ} {n : ℕ} → First (hasLeaf b q) m r → m ≤ 1024
+    → WroteAny b xip start ram (gather m (leafUses b q)) d₀ n₀ d n → WroteAny b xip start ram (gather r (leafUses b q)) d₀ n₀ d n
 unfolding leafUses
-next-leaves b ram q {m} {r} f h w =
+next-leaves b xip start ram q {m} {r} f h w =
     let e : m + (r - m) ≡ r = omega (arith, f .low) in
     let none : gather r (leafUses b q) ≡ gather m (leafUses b q) = rw e at (gather-skip (leafUses b q) m (r - m) (λ k l i. choose-no _ _ (f .before k l (omega arith)))) in
     rw none w
@@ -132,11 +132,11 @@ pointing-is b q first {d₀} {d} p z h =
     let n : length d₀ ≡ 1024 = ap length z ∙ tab-length 1024 _ in
     tab-by 1024 _ 0 d (p .done .size ∙ n) (λ k l. p .done .inside k (omega arith) (omega arith) (omega arith))
 
-root-leaf : (b : List ℕ) (ram : PageRange) (q first kernel m : ℕ) → LeavesAt b ram q first kernel → m < 1024
-    → leafPointer b q first m ≡ choose (hasLeaf b q m) (pointerEntry (physPage b ram (leafTable q m))) absentEntry
+root-leaf : (b : List ℕ) (xip : ℕ → Bool) (ram : PageRange) (q first kernel m : ℕ) → LeavesAt b xip ram q first kernel → m < 1024
+    → leafPointer b q first m ≡ choose (hasLeaf b q m) (pointerEntry (physPage b xip ram (leafTable q m))) absentEntry
 unfolding choose absentEntry leafPointer
-root-leaf b ram q first kernel m at h = by-test (λ c. hasLeaf b q m ≡ c
-    → choose c (pointerEntry ((first - leavesBelow b q m) % 0x40_0000)) 0 ≡ choose c (pointerEntry (physPage b ram (leafTable q m))) 0)
+root-leaf b xip ram q first kernel m at h = by-test (λ c. hasLeaf b q m ≡ c
+    → choose c (pointerEntry ((first - leavesBelow b q m) % 0x40_0000)) 0 ≡ choose c (pointerEntry (physPage b xip ram (leafTable q m))) 0)
     (hasLeaf b q m)
     (λ _ e.
     let l : first - leavesBelow b q m < 0x40_0000 = omega (arith, at .small) in
@@ -144,19 +144,19 @@ root-leaf b ram q first kernel m at h = by-test (λ c. hasLeaf b q m ≡ c
     (λ _ e. refl)
     refl
 
-pub root-page : (b : List ℕ) (ram : PageRange) (q : ℕ) (r e₁ e₂ : List ℕ) {r′ : List ℕ} (k first kernel : ℕ)
-    → LeavesAt b ram q first kernel → e₁ ≡ tab 1024 (leafPointer b q first)
+pub root-page : (b : List ℕ) (xip : ℕ → Bool) (ram : PageRange) (q : ℕ) (r e₁ e₂ : List ℕ) {r′ : List ℕ} (k first kernel : ℕ)
+    → LeavesAt b xip ram q first kernel → e₁ ≡ tab 1024 (leafPointer b q first)
     → e₂ ≡ set e₁ 1023 (pointerEntry (kernel % 0x40_0000))
-    → r′ ≡ put r k (tableByte (λ i. getD e₂ i 0)) → r′ ≡ put r k (tableByte (rootEntry b (physPage b ram) q))
+    → r′ ≡ put r k (tableByte (λ i. getD e₂ i 0)) → r′ ≡ put r k (tableByte (rootEntry b (physPage b xip ram) q))
 unfolding rootEntry
-root-page b ram q r e₁ e₂ k first kernel at e1 e2 p =
+root-page b xip ram q r e₁ e₂ k first kernel at e1 e2 p =
     let n₁ : length e₁ ≡ 1024 = ap length e1 ∙ tab-length 1024 _ in
     let l : kernel < 0x40_0000 = at .kernel-small in
     p ∙ table-put r k _ _ (λ m h. elim (ℕ-discrete m 1023) [
       | yes z ↦ rw (e2, z) (getD-set-same e₁ 1023 _ 0 (omega arith) ∙ rw (mod-eq-of-lt l, at .kernel-leaf) (sym (choose-yes _ _ (eq-eqb 1023 1023 refl))))
       | no z ↦
           rw e2 (getD-set-other e₁ 1023 m _ 0 z ∙ rw e1 (tab-get 1024 _ m 0 h
-          ∙ root-leaf b ram q first kernel m at h ∙ sym (choose-no _ _ (ne-eqb m 1023 z))))
+          ∙ root-leaf b xip ram q first kernel m at h ∙ sym (choose-no _ _ (ne-eqb m 1023 z))))
     ])
 
 -- ROOM FOR THE TABLES
@@ -172,64 +172,64 @@ kernel-below b = sum-zero 1023 _ (λ k h. one-no (ne-eqb k 1023 (λ e. omega ari
 two-tables : (b : List ℕ) (q : ℕ) → 1 ≤ leavesBelow b q 1024
 two-tables b q = omega (arith, leaf-below b q (ownSlot q) (own-inside q) (own-leaf b q))
 
-room-for-two : (b : List ℕ) (ram : PageRange) (q : ℕ) → Fits b ram → 1 ≤ q → q ≤ processCount b → rootPlace b (trackerPages b (ram .pages)) q + 2 ≤ ram .pages
+room-for-two : (b : List ℕ) (xip : ℕ → Bool) (ram : PageRange) (q : ℕ) → Fits b xip ram → 1 ≤ q → q ≤ processCount b → rootPlace b xip (trackerPages b (ram .pages)) q + 2 ≤ ram .pages
 unfolding tableCount
-room-for-two b ram q f lo hi = omega (arith, tables-room b (ram .pages) q (f .enough) lo hi, two-tables b q)
+room-for-two b xip ram q f lo hi = omega (arith, tables-room b xip (ram .pages) q (f .enough) lo hi, two-tables b q)
 
 -- the page of the first leaf, as it is handed out after the root's and made physical
-first-leaf : (b : List ℕ) (ram : PageRange) (q left : ℕ) {n k P : ℕ} → Fits b ram → 1 ≤ q → q ≤ processCount b → left ≡ ram .pages - rootPlace b (trackerPages b (ram .pages)) q
+first-leaf : (b : List ℕ) (xip : ℕ → Bool) (ram : PageRange) (q left : ℕ) {n k P : ℕ} → Fits b xip ram → 1 ≤ q → q ≤ processCount b → left ≡ ram .pages - rootPlace b xip (trackerPages b (ram .pages)) q
     → n ≡ left - 1 → k ≡ n - 1 → P ≡ (ram .base + k) % 0x1_0000_0000 → P ≡ ram .base + left - 2
-first-leaf b ram q left f lo hi l en ek e = omega (arith, room-for-two b ram q f lo hi, f .end)
+first-leaf b xip ram q left f lo hi l en ek e = omega (arith, room-for-two b xip ram q f lo hi, f .end)
 
-leaf-phys : (b : List ℕ) (ram : PageRange) (q m left : ℕ) → Fits b ram → 1 ≤ q → q ≤ processCount b → left ≡ ram .pages - rootPlace b (trackerPages b (ram .pages)) q
-    → m < 1024 → hasLeaf b q m ≡ true → physPage b ram (leafTable q m) ≡ ram .base + left - 2 - leavesBelow b q m
+leaf-phys : (b : List ℕ) (xip : ℕ → Bool) (ram : PageRange) (q m left : ℕ) → Fits b xip ram → 1 ≤ q → q ≤ processCount b → left ≡ ram .pages - rootPlace b xip (trackerPages b (ram .pages)) q
+    → m < 1024 → hasLeaf b q m ≡ true → physPage b xip ram (leafTable q m) ≡ ram .base + left - 2 - leavesBelow b q m
 unfolding physPage tableCount
-leaf-phys b ram q m left f lo hi l h e =
-    let p : ramPage b (ram .pages) (leafTable q m) ≡ ram .pages - 1 - (rootPlace b (trackerPages b (ram .pages)) q + suc (leavesBelow b q m)) = ram-page-at b (ram .pages) _ _ (place-leaf b _ q m lo hi h e) in
-    rw p (away (ram .base) (ram .pages) (rootPlace b (trackerPages b (ram .pages)) q) (leavesBelow b q m) left l (omega (arith, tables-room b (ram .pages) q (f .enough) lo hi, leaf-below b q m h e)))
+leaf-phys b xip ram q m left f lo hi l h e =
+    let p : ramPage b xip (ram .pages) (leafTable q m) ≡ ram .pages - 1 - (rootPlace b xip (trackerPages b (ram .pages)) q + suc (leavesBelow b q m)) = ram-page-at b xip (ram .pages) _ _ (place-leaf b xip _ q m lo hi h e) in
+    rw p (away (ram .base) (ram .pages) (rootPlace b xip (trackerPages b (ram .pages)) q) (leavesBelow b q m) left l (omega (arith, tables-room b xip (ram .pages) q (f .enough) lo hi, leaf-below b q m h e)))
   where
     away : (o n p k left : ℕ) → left ≡ n - p → p + k + 2 ≤ n → o + (n - 1 - (p + suc k)) ≡ o + left - 2 - k
     away o n p k left e h = omega arith
 
-phys-small : (b : List ℕ) (ram : PageRange) (u : Use) → Fits b ram → physPage b ram u < 0x40_0000
+phys-small : (b : List ℕ) (xip : ℕ → Bool) (ram : PageRange) (u : Use) → Fits b xip ram → physPage b xip ram u < 0x40_0000
 unfolding physPage ramPage
-phys-small b ram u f = omega (arith, f .end)
+phys-small b xip ram u f = omega (arith, f .end)
 
-pub kernel-at : (b : List ℕ) (ram : PageRange) (left : ℕ) {n k P : ℕ} → Fits b ram → left ≡ ram .pages - rootPlace b (trackerPages b (ram .pages)) 1
-    → n ≡ left - 1 → k ≡ n - 1 → P ≡ (ram .base + k) % 0x1_0000_0000 → P ≡ physPage b ram (leafTable 1 1023)
-kernel-at b ram left f l en ek e =
-    first-leaf b ram 1 left f (omega arith) (f .some-process) l en ek e
-    ∙ sym (leaf-phys b ram 1 1023 left f (omega arith) (f .some-process) l (omega arith) (kernel-leaf b) ∙ rw (kernel-below b) (omega arith))
+pub kernel-at : (b : List ℕ) (xip : ℕ → Bool) (ram : PageRange) (left : ℕ) {n k P : ℕ} → Fits b xip ram → left ≡ ram .pages - rootPlace b xip (trackerPages b (ram .pages)) 1
+    → n ≡ left - 1 → k ≡ n - 1 → P ≡ (ram .base + k) % 0x1_0000_0000 → P ≡ physPage b xip ram (leafTable 1 1023)
+kernel-at b xip ram left f l en ek e =
+    first-leaf b xip ram 1 left f (omega arith) (f .some-process) l en ek e
+    ∙ sym (leaf-phys b xip ram 1 1023 left f (omega arith) (f .some-process) l (omega arith) (kernel-leaf b) ∙ rw (kernel-below b) (omega arith))
 
-pub leaves-at : (b : List ℕ) (ram : PageRange) (q left kernel : ℕ) {n k first : ℕ} → Fits b ram → 1 ≤ q → q ≤ processCount b
-    → kernel ≡ physPage b ram (leafTable 1 1023) → left ≡ ram .pages - rootPlace b (trackerPages b (ram .pages)) q
-    → n ≡ left - 1 → k ≡ n - 1 → first ≡ (ram .base + k) % 0x1_0000_0000 → LeavesAt b ram q first kernel
-leaves-at b ram q left kernel f lo hi kl l en ek e =
-    let s = first-leaf b ram q left f lo hi l en ek e in
+pub leaves-at : (b : List ℕ) (xip : ℕ → Bool) (ram : PageRange) (q left kernel : ℕ) {n k first : ℕ} → Fits b xip ram → 1 ≤ q → q ≤ processCount b
+    → kernel ≡ physPage b xip ram (leafTable 1 1023) → left ≡ ram .pages - rootPlace b xip (trackerPages b (ram .pages)) q
+    → n ≡ left - 1 → k ≡ n - 1 → first ≡ (ram .base + k) % 0x1_0000_0000 → LeavesAt b xip ram q first kernel
+leaves-at b xip ram q left kernel f lo hi kl l en ek e =
+    let s = first-leaf b xip ram q left f lo hi l en ek e in
     record {
-      leaf = λ m h t. leaf-phys b ram q m left f lo hi l h t ∙ rw s;
+      leaf = λ m h t. leaf-phys b xip ram q m left f lo hi l h t ∙ rw s;
       small = omega (arith, f .end);
       kernel-leaf = kl;
-      kernel-small = rw kl (phys-small b ram _ f);
+      kernel-small = rw kl (phys-small b xip ram _ f);
     }
 
 -- THE TABLES OF ONE PROCESS
-pub process-tables : (b : List ℕ) (ram : PageRange) (q : ℕ) (r₀ r₁ : List ℕ) (n₀ k : ℕ) {n₁ : ℕ} {r : List ℕ} {n : ℕ}
-    → k ≡ n₀ - 1 → n₁ ≡ n₀ - 1 → r₁ ≡ put r₀ k (tableByte (rootEntry b (physPage b ram) q))
-    → WroteAny b ram (gather 1024 (leafUses b q)) r₁ n₁ r n → WroteAny b ram (tableUses b q) r₀ n₀ r n
+pub process-tables : (b : List ℕ) (xip : ℕ → Bool) (start : ℕ) (ram : PageRange) (q : ℕ) (r₀ r₁ : List ℕ) (n₀ k : ℕ) {n₁ : ℕ} {r : List ℕ} {n : ℕ}
+    → k ≡ n₀ - 1 → n₁ ≡ n₀ - 1 → r₁ ≡ put r₀ k (tableByte (rootEntry b (physPage b xip ram) q))
+    → WroteAny b xip start ram (gather 1024 (leafUses b q)) r₁ n₁ r n → WroteAny b xip start ram (tableUses b q) r₀ n₀ r n
 unfolding tableUses leafUses content pageByte
-process-tables b ram q r₀ r₁ n₀ k e e₁ p l =
+process-tables b xip start ram q r₀ r₁ n₀ k e e₁ p l =
     any-then {us = rootTable q ∷ []} (wrote-any (λ flash. wrote-page (rootTable q) _ e₁ e p (λ o _. refl))) l
 
 -- THE TABLES OF ALL
-pub next-place : (b : List ℕ) (ram : PageRange) (i : ℕ) {r₀ : List ℕ} {n₀ : ℕ} {r : List ℕ} {n : ℕ} → n₀ ≡ ram .pages - rootPlace b (trackerPages b (ram .pages)) 1
-    → WroteAny b ram (gather i (λ i. tableUses b (i + 1))) r₀ n₀ r n → n ≡ ram .pages - rootPlace b (trackerPages b (ram .pages)) (i + 1)
+pub next-place : (b : List ℕ) (xip : ℕ → Bool) (start : ℕ) (ram : PageRange) (i : ℕ) {r₀ : List ℕ} {n₀ : ℕ} {r : List ℕ} {n : ℕ} → n₀ ≡ ram .pages - rootPlace b xip (trackerPages b (ram .pages)) 1
+    → WroteAny b xip start ram (gather i (λ i. tableUses b (i + 1))) r₀ n₀ r n → n ≡ ram .pages - rootPlace b xip (trackerPages b (ram .pages)) (i + 1)
 unfolding rootPlace
-next-place b ram i e t =
+next-place b xip start ram i e t =
     let s : i + 1 - 1 ≡ i = omega arith in
     rw s (omega (arith, t .left, tables-length b i, tables-before-none b))
 
-pub tables-all : (b : List ℕ) (ram : PageRange) (i : ℕ) {r₀ : List ℕ} {n₀ : ℕ} {r : List ℕ} {n : ℕ} → i ≡ processCount b
-    → WroteAny b ram (gather i (λ i. tableUses b (i + 1))) r₀ n₀ r n → WroteAny b ram (allTables b) r₀ n₀ r n
+pub tables-all : (b : List ℕ) (xip : ℕ → Bool) (start : ℕ) (ram : PageRange) (i : ℕ) {r₀ : List ℕ} {n₀ : ℕ} {r : List ℕ} {n : ℕ} → i ≡ processCount b
+    → WroteAny b xip start ram (gather i (λ i. tableUses b (i + 1))) r₀ n₀ r n → WroteAny b xip start ram (allTables b) r₀ n₀ r n
 unfolding allTables
-tables-all b ram i e t = rw (← e) t
+tables-all b xip start ram i e t = rw (← e) t

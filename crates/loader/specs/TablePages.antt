@@ -1,6 +1,6 @@
 -- What the code of the table pages has to know.
 use mathlib.Core.Path.{_≡_}
-use mathlib.Core.Bool.{true}
+use mathlib.Core.Bool.{Bool, true}
 use mathlib.Core.List.{List, [], _∷_}
 use Prim.Native.Nat.{ℕ, _-_, _%_, _<_}
 use Rattle.notation.specs.Choice.{choose}
@@ -19,8 +19,8 @@ unfoldable pub leafPointer : List ℕ → ℕ → ℕ → ℕ → ℕ
 leafPointer b q first m = choose (hasLeaf b q m) (pointerEntry ((first - leavesBelow b q m) % 0x40_0000)) 0
 
 -- the leaf tables of process q lie from physical page `first` downwards, and the kernel's is at `kernel`
-pub record LeavesAt (b : List ℕ) (ram : PageRange) (q first kernel : ℕ) : Type 0 where
-  pub leaf : (m : ℕ) → m < 1024 → hasLeaf b q m ≡ true → physPage b ram (leafTable q m) ≡ first - leavesBelow b q m
+pub record LeavesAt (b : List ℕ) (xip : ℕ → Bool) (ram : PageRange) (q first kernel : ℕ) : Type 0 where
+  pub leaf : (m : ℕ) → m < 1024 → hasLeaf b q m ≡ true → physPage b xip ram (leafTable q m) ≡ first - leavesBelow b q m
   pub small : first < 0x40_0000
-  pub kernel-leaf : kernel ≡ physPage b ram (leafTable 1 1023)
+  pub kernel-leaf : kernel ≡ physPage b xip ram (leafTable 1 1023)
   pub kernel-small : kernel < 0x40_0000

@@ -12,6 +12,7 @@ ghost use Rattle.word_stores.specs.Words.{withWord};
 ghost use Rattle.order_laws.specs.Places.{trackerPlace, rootPlace};
 ghost use Rattle.writing.specs.Pages.{put};
 ghost use Rattle.accepted.specs.Fits.{Fits};
+ghost use Rattle.xip_sections.specs.Marks.{marked};
 use page_allocator::PageAllocator;
 use page_allocator::page_at;
 use types::PageRange;
@@ -34,9 +35,9 @@ fn put_process(page: &mut [u8], block: &[u8], q: u32, root: PhysPage)
 
 // The whole list. `first` is the place of the kernel's root table in the order of pages; each root is followed by the leaf
 // tables of its process.
-fn list_processes(page: &mut [u8], block: &[u8], range: PageRange, first: u32)
-    requires { ⌜ Fits (now block) range × (first ≡ rootPlace (now block) (trackerPages (now block) (range .pages)) 1) × (192 ≤ length (now page)) ⌝ }
-    ensures { λ _. ⌜ now (page .exit) ≡ tab (length (now (page .entry))) (processListByte (now (block .entry)) (satpWord (now (block .entry)) range)) ⌝ }
+fn list_processes(page: &mut [u8], block: &[u8], xip: &[u8], range: PageRange, first: u32)
+    requires { ⌜ Fits (now block) (marked (now xip)) range × (first ≡ rootPlace (now block) (marked (now xip)) (trackerPages (now block) (range .pages)) 1) × (192 ≤ length (now page)) ⌝ }
+    ensures { λ _. ⌜ now (page .exit) ≡ tab (length (now (page .entry))) (processListByte (now (block .entry)) (satpWord (now (block .entry)) (marked (now (xip .entry))) range)) ⌝ }
 {
     stores::clear(page);
     let count = block_header::process_count(block);
@@ -54,16 +55,17 @@ fn list_processes(page: &mut [u8], block: &[u8], range: PageRange, first: u32)
 pub(crate) fn load_process_list(
     ram: &mut [u8],
     block: &[u8],
+    xip: &[u8],
     range: PageRange,
     from: PageAllocator,
 ) -> PageAllocator
-    requires { ⌜ Fits (now block) range × (from .left ≡ range .pages - (trackerPlace (now block) + trackerPages (now block) (range .pages))) × (4096 * from .left ≤ length (now ram)) ⌝ }
+    requires { ⌜ Fits (now block) (marked (now xip)) range × (from .left ≡ range .pages - (trackerPlace (now block) (marked (now xip)) + trackerPages (now block) (range .pages))) × (4096 * from .left ≤ length (now ram)) ⌝ }
     ensures { λ r. ⌜ (r .left ≡ from .left - 1)
-        × (now (ram .exit) ≡ put (now (ram .entry)) (from .left - 1) (processListByte (now (block .entry)) (satpWord (now (block .entry)) range))) ⌝ }
+        × (now (ram .exit) ≡ put (now (ram .entry)) (from .left - 1) (processListByte (now (block .entry)) (satpWord (now (block .entry)) (marked (now (xip .entry))) range))) ⌝ }
 {
     let got = from.allocate();
     let start = got.page.0 as usize * 4096;
     let page = &mut ram[start..start + 4096];
-    list_processes(page, block, range, range.pages - from.left + 2);
+    list_processes(page, block, xip, range, range.pages - from.left + 2);
     got.rest
 }

@@ -1,5 +1,5 @@
 -- Choices by tests.
-use mathlib.Core.Bool.{Bool, true, false, _||_}
+use mathlib.Core.Bool.{Bool, true, false, _||_, _&&_}
 use mathlib.Core.List.{List, [], _∷_}
 
 -- if the test passes the first, else the second
@@ -12,7 +12,12 @@ unfoldable pub any : List Bool → Bool
 any [] = false
 any (t ∷ ts) = t || any ts
 
+-- all of the tests pass
+unfoldable pub all : List Bool → Bool
+all [] = true
+all (t ∷ ts) = t && all ts
+
 -- all definitions of this file, to be unfolded as one
 unfoldable pub choices : Unit {0}
-unfolding choose any
+unfolding choose any all
 choices = tt

@@ -7,6 +7,7 @@ use Rattle.notation.specs.Choice.{choose}
 use Rattle.types.specs.declared.Area.{Area}
 use Rattle.rules.specs.Lent.{Image, pagesIn}
 use Rattle.rules.specs.Block.{processCount}
+use Rattle.rules.specs.InPlace.{xipOf}
 use Rattle.rules.specs.Order.{rootTable}
 use Rattle.rules.specs.Refusals.{verdict}
 use Rattle.rules.specs.Load.{physPage}
@@ -20,4 +21,4 @@ isProcess b q = leb 1 q && leb q (processCount b)
 -- for RAM that lies here: nowhere where the block is refused or has no process q
 unfoldable pub rootFound : Image → Area → ℕ → Root
 rootFound x ram q =
-    choose (eqb (verdict x ram .number) 0 && isProcess (x .block) q) (At (record { 0 = physPage (x .block) (pagesIn ram) (rootTable q) })) Nowhere
+    choose (eqb (verdict x ram .number) 0 && isProcess (x .block) q) (At (record { 0 = physPage (x .block) (xipOf x) (pagesIn ram) (rootTable q) })) Nowhere

@@ -13,11 +13,19 @@ pub enum Root {
 }
 
 // The root table of process q, by the order of pages, for RAM of `ram` bytes from `start` on.
-pub fn find_root(block: &[u8], flash: &[u8], start: u32, ram: usize, q: u32) -> Root
-    ensures { λ r. ⌜ r ≡ rootFound (imageOf (now (block .entry)) (now (flash .entry))) (areaOf start ram) q ⌝ }
+pub fn find_root(
+    block: &[u8],
+    flash: &[u8],
+    flash_start: u32,
+    start: u32,
+    ram: usize,
+    q: u32,
+) -> Root
+    ensures { λ r. ⌜ r ≡ rootFound (imageOf (now (block .entry)) «flash_start» (now (flash .entry))) (areaOf start ram) q ⌝ }
 {
-    let checked = checks::check(block, flash, start, ram);
-    if checked.number != 0 {
+    let mut xip = [0u8; 64];
+    let answer = checks::mark_and_answer(block, flash, flash_start, start, ram, &mut xip);
+    if answer.number != 0 {
         return Root::Nowhere;
     }
     if q == 0 {
@@ -30,6 +38,6 @@ pub fn find_root(block: &[u8], flash: &[u8], start: u32, ram: usize, q: u32) -> 
         base: start / 4096,
         pages: (ram / 4096) as u32,
     };
-    let place = order_places::root_place(block, range.pages, q);
+    let place = order_places::root_place(block, &xip, range.pages, q);
     Root::At(page_allocator::page_at(range, place))
 }

@@ -1,11 +1,11 @@
 -- What a process starts with: the three answers.
 use mathlib.Core.Path.{_≡_, refl, sym, ap, _∙_}
 use mathlib.Core.Logic.{_≢_}
-use mathlib.Core.Bool.{Bool, true, false, _&&_}
-use mathlib.Core.List.{List, [], _∷_}
-use Prim.Native.Nat.{ℕ, _+_, _-_, _*_, _%_, _≤_, _<_}
+use mathlib.Core.Bool.{Bool, true, false}
+use mathlib.Core.List.{List}
+use Prim.Native.Nat.{ℕ, _-_, _%_, _≤_}
 use native.Mathlib.Omega.{arith}
-use lib.Dec.{eqb, leb}
+use lib.Dec.{leb}
 use lib.Seq.{sets}
 use lib.ListN.{set}
 use borrow.Author.Tests.{eq-eqb, ne-eqb, leb-true}
@@ -15,12 +15,13 @@ use Rattle.types.specs.declared.PhysPage.{PhysPage}
 use Rattle.types.specs.declared.Verdict.{Verdict}
 use Rattle.rules.specs.Lent.{Image, pagesIn}
 use Rattle.rules.specs.Block.{processCount, entryPoint}
+use Rattle.rules.specs.InPlace.{xipOf}
 use Rattle.rules.specs.Order.{rootTable, ramPage}
 use Rattle.rules.specs.Refusals.{verdict}
 use Rattle.rules.specs.Entries.{satpOf}
 use Rattle.rules.specs.Contents.{stackPointer, processWord}
 use Rattle.rules.specs.Load.{physPage, satpWord}
-use Rattle.laws.specs.Choice.{and-right, choose-yes, choose-no}
+use Rattle.laws.specs.Choice.{and-right}
 use Rattle.accepted.specs.Fits.{Fits, accepted}
 use Rattle.order_roots.specs.declared.Root.{Root}
 use Rattle.order_roots.specs.declared.Root.the-variants.{Nowhere, At}
@@ -45,7 +46,7 @@ somewhere false P P′ e = let z : _≡_ {A = ℕ} 0 1 = cc in absurd (omega ari
 
 module _ (x : Image) (ram : Area) (v : Verdict) (e : v ≡ verdict x ram) (q : ℕ) where
   abbrev page : PhysPage
-  page = record { 0 = physPage (x .block) (pagesIn ram) (rootTable q) }
+  page = record { 0 = physPage (x .block) (xipOf x) (pagesIn ram) (rootTable q) }
 
   pub process-refused : (words : List ℕ) → v .number ≢ 0 → (v .number ≡ processNumber x ram q) × (words ≡ sets words 0 (processWords x ram q))
   unfolding processNumber processWords choose
@@ -69,10 +70,10 @@ module _ (x : Image) (ram : Area) (v : Verdict) (e : v ≡ verdict x ram) (q : �
 
   -- the words are of 32 bits
   satp-word : v .number ≡ 0 → isProcess (x .block) q ≡ true
-      → satpOf q (physPage (x .block) (pagesIn ram) (rootTable q)) % 0x1_0000_0000 ≡ satpWord (x .block) (pagesIn ram) q
+      → satpOf q (physPage (x .block) (xipOf x) (pagesIn ram) (rootTable q)) % 0x1_0000_0000 ≡ satpWord (x .block) (xipOf x) (pagesIn ram) q
   unfolding satpOf satpWord physPage ramPage isProcess
   satp-word z c =
-      let f : Fits (x .block) (pagesIn ram) = accepted x ram v e z .room in
+      let f : Fits (x .block) (xipOf x) (pagesIn ram) = accepted x ram v e z .room in
       let h : q ≤ processCount (x .block) = leb-true _ _ (and-right (leb 1 q) _ c) in
       omega (arith, f .few-processes, f .end)
 
@@ -83,5 +84,5 @@ module _ (x : Image) (ram : Area) (v : Verdict) (e : v ≡ verdict x ram) (q : �
   process-told words words′ root P z f k t =
       let s : (isProcess (x .block) q ≡ true) × (page ≡ P) = somewhere (isProcess (x .block) q) page P (sym (found root z f) ∙ k) in
       let n : processNumber x ram q ≡ 0 = number-is z ∙ rw (s .0) in
-      let p : P .0 ≡ physPage (x .block) (pagesIn ram) (rootTable q) = sym (ap (λ (p : PhysPage). p .0) (s .1)) in
+      let p : P .0 ≡ physPage (x .block) (xipOf x) (pagesIn ram) (rootTable q) = sym (ap (λ (p : PhysPage). p .0) (s .1)) in
       (sym n, t ∙ rw (n, p, satp-word z (s .0)))

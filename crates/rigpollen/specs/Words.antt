@@ -11,6 +11,7 @@ use Rattle.types.specs.declared.Entry.{Entry}
 use Rattle.types.specs.declared.Entry.the-variants.{Absent, Reserved, Pointer, Page}
 use Rattle.rules.specs.Lent.{Image, pagesIn}
 use Rattle.rules.specs.Block.{entryPoint}
+use Rattle.rules.specs.InPlace.{xipOf}
 use Rattle.rules.specs.Refusals.{verdict}
 use Rattle.rules.specs.Entries.{satpOf}
 use Rattle.rules.specs.Contents.{stackPointer, processWord}
@@ -32,7 +33,7 @@ processNumber x ram q = let v = verdict x ram in choose (eqb (v .number) 0) (cho
 -- its words of the process list, where that is 0
 unfoldable pub processWords : Image → Area → ℕ → List ℕ
 processWords x ram q =
-    let word = processWord (x .block) (satpWord (x .block) (pagesIn ram)) q in
+    let word = processWord (x .block) (satpWord (x .block) (xipOf x) (pagesIn ram)) q in
     choose (eqb (processNumber x ram q) 0) (word 0 ∷ word 1 ∷ word 2 ∷ []) []
 
 -- the rights of a page: read 1, write 2, execute 4, user 8

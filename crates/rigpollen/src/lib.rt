@@ -2,10 +2,11 @@
 ghost use mathlib.Core.Path.{_≡_};
 ghost use lib.ListN.{length, set};
 ghost use lib.Seq.{sets};
-ghost use Rattle.rules.specs.Lent.{imageOf, ramOf, areaOf};
+ghost use Rattle.rules.specs.Lent.{imageOf, memoryOf, areaOf};
 ghost use Rattle.rules.specs.Load.{answerOn, answer as answerOf, ramAfter};
-ghost use Rattle.rules.specs.Reader.{walk};
+ghost use Rattle.rules.specs.Reader.{walk, pageAt};
 ghost use Rattle.rules.specs.Writer.{recordsIn, written, bufferAfter};
+ghost use Rattle.stores.specs.Writes.{copied};
 ghost use Rattle.rigpollen.specs.Words.{answerWords, startWords, processNumber, processWords, rightsWord, entryNumber, entryWords, writtenWords};
 use order_roots::Root;
 use types::Answer;
@@ -26,14 +27,20 @@ fn put(words: &mut [u32], at: usize, word: u32)
     }
 }
 
-// Loads the block's programs from flash into RAM that starts at physical address `ram_start`. Returns 0, or the number of the
-// refusal, which leaves RAM as it came.
+// Loads the block's programs into RAM, at physical address `ram_start`, from flash, at `flash_start`; what can be used straight from flash
+// is mapped there. Returns 0, or the number of the refusal, which leaves RAM as it came.
 #[no_mangle]
-pub extern "C" fn rigpollen_load(block: &[u8], flash: &[u8], ram: &mut [u8], ram_start: u32) -> u32
-    ensures { λ r. ⌜ (r ≡ answerOf (imageOf (now (block .entry)) (now (flash .entry))) (ramOf «ram_start» (now (ram .entry))) .number)
-        × (now (ram .exit) ≡ ramAfter (imageOf (now (block .entry)) (now (flash .entry))) (ramOf «ram_start» (now (ram .entry)))) ⌝ }
+pub extern "C" fn rigpollen_load(
+    block: &[u8],
+    flash: &[u8],
+    flash_start: u32,
+    ram: &mut [u8],
+    ram_start: u32,
+) -> u32
+    ensures { λ r. ⌜ (r ≡ answerOf (imageOf (now (block .entry)) «flash_start» (now (flash .entry))) (memoryOf «ram_start» (now (ram .entry))) .number)
+        × (now (ram .exit) ≡ ramAfter (imageOf (now (block .entry)) «flash_start» (now (flash .entry))) (memoryOf «ram_start» (now (ram .entry)))) ⌝ }
 {
-    let answer = loader::load(block, flash, ram, ram_start);
+    let answer = loader::load(block, flash, flash_start, ram, ram_start);
     answer.number
 }
 
@@ -55,15 +62,16 @@ fn tell_answer(full: Answer, words: &mut [u32])
 pub extern "C" fn rigpollen_answer(
     block: &[u8],
     flash: &[u8],
+    flash_start: u32,
     ram: &mut [u8],
     ram_start: u32,
     answer: &mut [u32],
 ) -> u32
-    ensures { λ r. ⌜ (r ≡ answerOf (imageOf (now (block .entry)) (now (flash .entry))) (ramOf «ram_start» (now (ram .entry))) .number)
-        × (now (ram .exit) ≡ ramAfter (imageOf (now (block .entry)) (now (flash .entry))) (ramOf «ram_start» (now (ram .entry))))
-        × (now (answer .exit) ≡ sets (now (answer .entry)) 0 (answerWords (answerOf (imageOf (now (block .entry)) (now (flash .entry))) (ramOf «ram_start» (now (ram .entry)))))) ⌝ }
+    ensures { λ r. ⌜ (r ≡ answerOf (imageOf (now (block .entry)) «flash_start» (now (flash .entry))) (memoryOf «ram_start» (now (ram .entry))) .number)
+        × (now (ram .exit) ≡ ramAfter (imageOf (now (block .entry)) «flash_start» (now (flash .entry))) (memoryOf «ram_start» (now (ram .entry))))
+        × (now (answer .exit) ≡ sets (now (answer .entry)) 0 (answerWords (answerOf (imageOf (now (block .entry)) «flash_start» (now (flash .entry))) (memoryOf «ram_start» (now (ram .entry)))))) ⌝ }
 {
-    let full = loader::load(block, flash, ram, ram_start);
+    let full = loader::load(block, flash, flash_start, ram, ram_start);
     tell_answer(full, answer);
     full.number
 }
@@ -74,14 +82,15 @@ pub extern "C" fn rigpollen_answer(
 pub extern "C" fn rigpollen_check(
     block: &[u8],
     flash: &[u8],
+    flash_start: u32,
     ram_length: usize,
     ram_start: u32,
     answer: &mut [u32],
 ) -> u32
-    ensures { λ r. ⌜ (r ≡ answerOn (imageOf (now (block .entry)) (now (flash .entry))) (areaOf «ram_start» «ram_length») .number)
-        × (now (answer .exit) ≡ sets (now (answer .entry)) 0 (answerWords (answerOn (imageOf (now (block .entry)) (now (flash .entry))) (areaOf «ram_start» «ram_length»)))) ⌝ }
+    ensures { λ r. ⌜ (r ≡ answerOn (imageOf (now (block .entry)) «flash_start» (now (flash .entry))) (areaOf «ram_start» «ram_length») .number)
+        × (now (answer .exit) ≡ sets (now (answer .entry)) 0 (answerWords (answerOn (imageOf (now (block .entry)) «flash_start» (now (flash .entry))) (areaOf «ram_start» «ram_length»)))) ⌝ }
 {
-    let full = checks::answer_on(block, flash, ram_start, ram_length);
+    let full = checks::answer_on(block, flash, flash_start, ram_start, ram_length);
     tell_answer(full, answer);
     full.number
 }
@@ -103,19 +112,20 @@ fn tell_process(block: &[u8], q: u32, root: PhysPage, words: &mut [u32])
 pub extern "C" fn rigpollen_process(
     block: &[u8],
     flash: &[u8],
+    flash_start: u32,
     ram_length: usize,
     ram_start: u32,
     process: u32,
     words: &mut [u32],
 ) -> u32
-    ensures { λ r. ⌜ (r ≡ processNumber (imageOf (now (block .entry)) (now (flash .entry))) (areaOf «ram_start» «ram_length») process)
-        × (now (words .exit) ≡ sets (now (words .entry)) 0 (processWords (imageOf (now (block .entry)) (now (flash .entry))) (areaOf «ram_start» «ram_length») process)) ⌝ }
+    ensures { λ r. ⌜ (r ≡ processNumber (imageOf (now (block .entry)) «flash_start» (now (flash .entry))) (areaOf «ram_start» «ram_length») process)
+        × (now (words .exit) ≡ sets (now (words .entry)) 0 (processWords (imageOf (now (block .entry)) «flash_start» (now (flash .entry))) (areaOf «ram_start» «ram_length») process)) ⌝ }
 {
-    let verdict = checks::check(block, flash, ram_start, ram_length);
+    let verdict = checks::check(block, flash, flash_start, ram_start, ram_length);
     if verdict.number != 0 {
         return verdict.number;
     }
-    match order_roots::find_root(block, flash, ram_start, ram_length, process) {
+    match order_roots::find_root(block, flash, flash_start, ram_start, ram_length, process) {
         Root::Nowhere => NO_PROCESS,
         Root::At(page) => {
             tell_process(block, process, page, words);
@@ -161,11 +171,32 @@ pub extern "C" fn rigpollen_walk(
     address: u32,
     page: &mut [u32],
 ) -> u32
-    ensures { λ r. ⌜ (r ≡ entryNumber (walk (ramOf «ram_start» (now (ram .entry))) root address))
-        × (now (page .exit) ≡ sets (now (page .entry)) 0 (entryWords (walk (ramOf «ram_start» (now (ram .entry))) root address))) ⌝ }
+    ensures { λ r. ⌜ (r ≡ entryNumber (walk (memoryOf «ram_start» (now (ram .entry))) root address))
+        × (now (page .exit) ≡ sets (now (page .entry)) 0 (entryWords (walk (memoryOf «ram_start» (now (ram .entry))) root address))) ⌝ }
 {
     let entry = sv32_reader::walk(ram, ram_start, PhysPage(root), address);
     tell_entry(entry, page)
+}
+
+// The bytes of the page at an address, by way of a root table in RAM, are put into `bytes`, as many as fit; what lies beyond stays. They
+// are RAM's if the page is wholly in RAM, else flash's if it is wholly in flash. Returns 4,096, where fewer fit too; else 0, and
+// `bytes` stays: there is no page, or it lies wholly in neither.
+#[no_mangle]
+pub extern "C" fn rigpollen_page<'a>(
+    ram: &'a [u8],
+    ram_start: u32,
+    flash: &'a [u8],
+    flash_start: u32,
+    root: u32,
+    address: u32,
+    bytes: &mut [u8],
+) -> usize
+    ensures { λ r. ⌜ (r ≡ length (pageAt (memoryOf «ram_start» (now (ram .entry))) (memoryOf «flash_start» (now (flash .entry))) root address))
+        × (now (bytes .exit) ≡ copied (now (bytes .entry)) 0 (pageAt (memoryOf «ram_start» (now (ram .entry))) (memoryOf «flash_start» (now (flash .entry))) root address)) ⌝ }
+{
+    let part = sv32_pages::page(ram, ram_start, flash, flash_start, PhysPage(root), address);
+    stores::copy_in(bytes, 0, part);
+    part.len()
 }
 
 // The words of the writer's answer.

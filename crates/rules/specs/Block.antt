@@ -1,10 +1,11 @@
 -- 01, "The boot block". `b` is the block's bytes.
-use mathlib.Core.Bool.{Bool}
+use mathlib.Core.Bool.{Bool, _&&_}
 use mathlib.Core.List.{List}
+use mathlib.Core.Option.{none, some}
 use Prim.Native.Nat.{ℕ, _+_, _-_, _*_, _/_}
-use lib.Dec.{eqb}
+use lib.Dec.{leb, ltb, eqb}
 use Rattle.notation.specs.Choice.{choose}
-use Rattle.notation.specs.Lists.{sum}
+use Rattle.notation.specs.Lists.{sum, findLast}
 use Rattle.notation.specs.Words.{word, bit}
 use Rattle.types.specs.declared.Area.{Area}
 use Rattle.types.specs.declared.Process.{Process}
@@ -90,6 +91,15 @@ stackFirst b q = 0x80000 - stackPages b q
 unfoldable pub sectionRecord : List ℕ → ℕ → ℕ → ℕ
 sectionRecord b q j = firstSection b q + j
 
+-- section record n is one of the sections of process record i
+unfoldable pub hasSection : List ℕ → ℕ → ℕ → Bool
+hasSection b n i = leb (firstSection b (i + 1)) n && ltb n (firstSection b (i + 1) + sectionsOf b (i + 1))
+
+-- the process that owns section record n, 0 where none does: where 6 is not given, each n below s has one owner (`section-owner` in
+-- accepted/Sections)
+unfoldable pub ownerOf : List ℕ → ℕ → ℕ
+ownerOf b n = elim (findLast (hasSection b n) (processCount b)) [ none ↦ 0 | some i ↦ i + 1 ]
+
 -- A SECTION RECORD: four words
 unfoldable pub sectionAt : List ℕ → ℕ → ℕ
 sectionAt b n = sectionsAt b + 16 * n
@@ -152,5 +162,5 @@ ioPages b = ioPagesOf b (regionCount b)
 
 -- all definitions of this file, to be unfolded as one
 unfoldable pub block-rules : Unit {0}
-unfolding format lengthField processCount processOffset sectionCount sectionOffset regionCount regionOffset sectionsAt regionsAt tightLength processAt entryPoint firstSection sectionsOf kind processRecord stackPages stackFirst sectionRecord sectionAt address size flashOffset flags noCopy writable executable sectionEnd firstPage lastPage pageCount regionAt regionStart regionPages regionArea ioPagesOf ioPages
+unfolding format lengthField processCount processOffset sectionCount sectionOffset regionCount regionOffset sectionsAt regionsAt tightLength processAt entryPoint firstSection sectionsOf kind processRecord stackPages stackFirst sectionRecord hasSection ownerOf sectionAt address size flashOffset flags noCopy writable executable sectionEnd firstPage lastPage pageCount regionAt regionStart regionPages regionArea ioPagesOf ioPages
 block-rules = tt

@@ -1,5 +1,5 @@
 -- The bytes of every page of data. 01, "Pages, from the top down" (a section's bytes), and "Entries" (tracker and process list).
-use mathlib.Core.Bool.{_&&_}
+use mathlib.Core.Bool.{Bool, _&&_}
 use mathlib.Core.List.{List, _++_}
 use Prim.Native.Nat.{ℕ, zero, suc, _+_, _-_, _*_, _/_, _%_}
 use lib.ListN.{getD}
@@ -20,11 +20,11 @@ sectionPageByte x n i k =
     let at = 4096 * i + k in
     let offset = address b n % 4096 in
     choose (noCopy b n) 0
-    (choose (leb offset at && ltb at (offset + size b n)) (getD (x .flash) (flashOffset b n + (at - offset)) 0) 0)
+    (choose (leb offset at && ltb at (offset + size b n)) (getD (x .flash .bytes) (flashOffset b n + (at - offset)) 0) 0)
 
 -- the tracker's bytes for RAM of N pages: RAM pages rising, then the I/O pages, which are 0
-unfoldable pub tracker : List ℕ → ℕ → List ℕ
-tracker b N = tab N (λ k. owner (useOf b N k)) ++ tab (ioPages b) (λ k. 0)
+unfoldable pub tracker : List ℕ → (ℕ → Bool) → ℕ → List ℕ
+tracker b xip N = tab N (λ k. owner (useOf b xip N k)) ++ tab (ioPages b) (λ k. 0)
 
 -- the stack pointer of process q
 unfoldable pub stackPointer : ℕ → ℕ

@@ -10,6 +10,7 @@ use Rattle.notation.specs.Words.{bytesOf, words}
 use Rattle.types.specs.declared.Answer.{Answer}
 use Rattle.rules.specs.Lent.{imageOf, areaOf, area-rules}
 use Rattle.rules.specs.Block.{block-rules}
+use Rattle.rules.specs.InPlace.{in-place-rules}
 use Rattle.rules.specs.Order.{order-rules}
 use Rattle.rules.specs.Refusals.{refusal-rules}
 use Rattle.rules.specs.Load.{answerOn, load-rules}
@@ -29,7 +30,7 @@ board entry B region = bytesOf
 unfoldable pub smallBoard : List ℕ
 smallBoard = board 0x0001_0020 0x0002_0000 0xF000_0000
 
--- an example: the block, the bytes of flash, the pages of RAM from 0x40000000 on, and the answer's number, place, free pages and
+-- an example: the block, the bytes of flash from 0x20000000 on, the pages of RAM from 0x40000000 on, and the answer's number, place, free pages and
 -- offset
 pub record Example : Type 0 where
   pub block : List ℕ
@@ -41,7 +42,7 @@ pub record Example : Type 0 where
   pub offset : ℕ
 
 unfoldable pub given : Example → Answer
-given x = answerOn (imageOf (x .block) (tab (x .flash) (λ k. 0))) (areaOf 0x4000_0000 (4096 * x .pages))
+given x = answerOn (imageOf (x .block) 0x2000_0000 (tab (x .flash) (λ k. 0))) (areaOf 0x4000_0000 (4096 * x .pages))
 
 unfoldable pub exampleHolds : Example → Bool
 exampleHolds x =
@@ -78,5 +79,5 @@ example-rules = tt
 -- all examples hold
 -- where this is refused: `--` before rows of `examples`, from the last up, with `rt dev rules` after each, until it passes
 pub P1-to-P12 : allHold examples ≡ true
-unfolding example-rules load-rules refusal-rules order-rules block-rules area-rules words lists choices
+unfolding example-rules load-rules refusal-rules order-rules in-place-rules block-rules area-rules words lists choices
 P1-to-P12 = refl

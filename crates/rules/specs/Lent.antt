@@ -7,29 +7,29 @@ use lib.Dec.{leb, ltb}
 use Rattle.types.specs.declared.Area.{Area}
 use Rattle.types.specs.declared.PageRange.{PageRange}
 
--- what is to be loaded: the bytes of the boot block and of the flash image
-pub record Image : Type 0 where
-  pub block : List ℕ
-  pub flash : List ℕ
-
--- RAM: the physical address where it starts, and its bytes
-pub record Ram : Type 0 where
+-- a memory, RAM or flash: the physical address where it starts, and its bytes
+pub record Memory : Type 0 where
   pub start : ℕ
   pub bytes : List ℕ
 
--- the same, from what a call is lent
-abbrev pub imageOf : List ℕ → List ℕ → Image
-imageOf b flash = record { block = b; flash = flash }
+-- what is to be loaded: the bytes of the boot block, and flash, whose bytes are the image
+pub record Image : Type 0 where
+  pub block : List ℕ
+  pub flash : Memory
 
-abbrev pub ramOf : ℕ → List ℕ → Ram
-ramOf start bytes = record { start = start; bytes = bytes }
+-- the same, from what a call is lent
+abbrev pub memoryOf : ℕ → List ℕ → Memory
+memoryOf start bytes = record { start = start; bytes = bytes }
+
+abbrev pub imageOf : List ℕ → ℕ → List ℕ → Image
+imageOf b start flash = record { block = b; flash = memoryOf start flash }
 
 -- AREAS of physical addresses
 abbrev pub areaOf : ℕ → ℕ → Area
 areaOf start len = record { start = start; length = len }
 
-abbrev pub ramArea : Ram → Area
-ramArea r = areaOf (r .start) (length (r .bytes))
+abbrev pub memoryArea : Memory → Area
+memoryArea m = areaOf (m .start) (length (m .bytes))
 
 -- the 4,096 bytes of physical page P
 abbrev pub pageArea : ℕ → Area
@@ -43,10 +43,6 @@ endOf a = a .start + a .length
 abbrev pub pagesIn : Area → PageRange
 pagesIn a = record { base = a .start / 4096; pages = a .length / 4096 }
 
--- the address x is in the area
-unfoldable pub hasAddress : Area → ℕ → Bool
-hasAddress a x = leb (a .start) x && ltb x (endOf a)
-
 -- the first area lies wholly in the second
 unfoldable pub liesIn : Area → Area → Bool
 liesIn a c = leb (c .start) (a .start) && leb (endOf a) (endOf c)
@@ -57,5 +53,5 @@ shareAddress a c = ltb (max (a .start) (c .start)) (min (endOf a) (endOf c))
 
 -- all definitions of this file, to be unfolded as one
 unfoldable pub area-rules : Unit {0}
-unfolding hasAddress liesIn shareAddress
+unfolding liesIn shareAddress
 area-rules = tt

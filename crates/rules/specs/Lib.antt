@@ -1,6 +1,7 @@
 pub mod Lent
 pub mod Block
 pub mod Space
+pub mod InPlace
 pub mod Order
 pub mod Refusals
 pub mod Entries

@@ -1,4 +1,5 @@
--- 01, "Pages, from the top down": the one list of uses, and all that is counted from it.
+-- 01, "Pages, from the top down": the one list of uses, and all that is counted from it. `xip n` says that section record n is used in place
+-- (execute in place).
 use mathlib.Core.Bool.{Bool, true, false, _&&_}
 use mathlib.Core.List.{List, [], _∷_, _++_}
 use mathlib.Core.Option.{Option, none, some}
@@ -25,19 +26,19 @@ pub data Use : Type 0 where
 
 -- THE USES, IN ORDER
 -- the pages that section record n takes in RAM
-unfoldable pub pagesTaken : List ℕ → ℕ → ℕ
-pagesTaken b n = pageCount b n
+unfoldable pub pagesTaken : List ℕ → (ℕ → Bool) → ℕ → ℕ
+pagesTaken b xip n = choose (xip n) 0 (pageCount b n)
 
 -- the pages of section j of process q, by rising virtual page; of its sections, by record; of all sections: process 2's, 3's and so on,
 -- then the kernel's
-unfoldable pub sectionPages : List ℕ → ℕ → ℕ → List Use
-sectionPages b q j = tab (pagesTaken b (sectionRecord b q j)) (λ i. holds (sectionPage q j i))
+unfoldable pub sectionPages : List ℕ → (ℕ → Bool) → ℕ → ℕ → List Use
+sectionPages b xip q j = tab (pagesTaken b xip (sectionRecord b q j)) (λ i. holds (sectionPage q j i))
 
-unfoldable pub sectionUses : List ℕ → ℕ → List Use
-sectionUses b q = gather (sectionsOf b q) (sectionPages b q)
+unfoldable pub sectionUses : List ℕ → (ℕ → Bool) → ℕ → List Use
+sectionUses b xip q = gather (sectionsOf b q) (sectionPages b xip q)
 
-unfoldable pub allSections : List ℕ → List Use
-allSections b = gather (processCount b - 1) (λ i. sectionUses b (i + 2)) ++ sectionUses b 1
+unfoldable pub allSections : List ℕ → (ℕ → Bool) → List Use
+allSections b xip = gather (processCount b - 1) (λ i. sectionUses b xip (i + 2)) ++ sectionUses b xip 1
 
 -- the page tracker's T pages: the lower part first
 unfoldable pub trackerUses : ℕ → List Use
@@ -70,11 +71,11 @@ unfoldable pub allTables : List ℕ → List Use
 allTables b = gather (processCount b) (λ i. tableUses b (i + 1))
 
 -- THE ORDER: the four at the top; all sections; the tracker's T pages; the process list; the copy of the block; all tables
-unfoldable pub belowTop : List ℕ → ℕ → List Use
-belowTop b T = allSections b ++ (trackerUses T ++ (holds processList ∷ holds blockCopy ∷ allTables b))
+unfoldable pub belowTop : List ℕ → (ℕ → Bool) → ℕ → List Use
+belowTop b xip T = allSections b xip ++ (trackerUses T ++ (holds processList ∷ holds blockCopy ∷ allTables b))
 
-unfoldable pub order : List ℕ → ℕ → List Use
-order b T = tab 4 top ++ belowTop b T
+unfoldable pub order : List ℕ → (ℕ → Bool) → ℕ → List Use
+order b xip T = tab 4 top ++ belowTop b xip T
 
 -- COUNTED FROM IT, for RAM of N pages
 -- pages that hold n bytes
@@ -85,27 +86,27 @@ pagesFor n = (n + 4095) / 4096
 unfoldable pub trackerPages : List ℕ → ℕ → ℕ
 trackerPages b N = pagesFor (N + ioPages b)
 
-unfoldable pub uses : List ℕ → ℕ → List Use
-uses b N = order b (trackerPages b N)
+unfoldable pub uses : List ℕ → (ℕ → Bool) → ℕ → List Use
+uses b xip N = order b xip (trackerPages b N)
 
 -- the pages needed, which are the pages taken
-unfoldable pub pagesNeeded : List ℕ → ℕ → ℕ
-pagesNeeded b N = length (uses b N)
+unfoldable pub pagesNeeded : List ℕ → (ℕ → Bool) → ℕ → ℕ
+pagesNeeded b xip N = length (uses b xip N)
 
-unfoldable pub freePages : List ℕ → ℕ → ℕ
-freePages b N = N - pagesNeeded b N
+unfoldable pub freePages : List ℕ → (ℕ → Bool) → ℕ → ℕ
+freePages b xip N = N - pagesNeeded b xip N
 
 -- the use of RAM page k: none where it is free
-unfoldable pub useOf : List ℕ → ℕ → ℕ → Option Use
-useOf b N k = lookup (uses b N) (N - 1 - k)
+unfoldable pub useOf : List ℕ → (ℕ → Bool) → ℕ → ℕ → Option Use
+useOf b xip N k = lookup (uses b xip N) (N - 1 - k)
 
 -- the two uses are one
 unfoldable pub sameUse : Use → Use → Bool
 sameUse u v = elim (Use-discrete ℕ-discrete (Data-discrete ℕ-discrete) u v) [ yes e ↦ true | no e ↦ false ]
 
 -- the RAM page of a use: one lower for each use before it
-unfoldable pub ramPage : List ℕ → ℕ → Use → ℕ
-ramPage b N u = N - 1 - countBefore (sameUse u) (uses b N)
+unfoldable pub ramPage : List ℕ → (ℕ → Bool) → ℕ → Use → ℕ
+ramPage b xip N u = N - 1 - countBefore (sameUse u) (uses b xip N)
 
 -- the owner of a page, 0 where it is free: section pages belong to their process, all other taken pages to process 1
 unfoldable pub dataOwner : Data → ℕ
@@ -125,8 +126,8 @@ owner none = 0
 owner (some u) = useOwner u
 
 -- the pages of process q, the four at the top among the kernel's
-unfoldable pub pagesOf : List ℕ → ℕ → ℕ → ℕ
-pagesOf b N q = count (λ u. eqb (useOwner u) q) (uses b N)
+unfoldable pub pagesOf : List ℕ → (ℕ → Bool) → ℕ → ℕ → ℕ
+pagesOf b xip N q = count (λ u. eqb (useOwner u) q) (uses b xip N)
 
 -- all definitions of this file, to be unfolded as one
 unfoldable pub order-rules : Unit {0}

@@ -1,20 +1,20 @@
--- 01, "When it says no": each refusal's cause, and the first in 01's order. Ends are whole-number sums; nothing wraps.
+-- 01, "When it says no", and 02, A6: each refusal's cause, and the first in their order. Ends are whole-number sums; nothing wraps.
 use mathlib.Core.Bool.{Bool, not, _&&_}
 use mathlib.Core.List.{List, [], _∷_, _++_}
-use mathlib.Core.Option.{none, some}
 use Prim.Native.Nat.{ℕ, zero, suc, _+_, _-_, _*_, _/_, _%_}
 use lib.ListN.{length}
 use lib.Dec.{leb, ltb, eqb}
 use Rattle.notation.specs.Choice.{choose, any}
-use Rattle.notation.specs.Lists.{sum, findLast, exists}
+use Rattle.notation.specs.Lists.{sum, exists}
 use Rattle.types.specs.declared.Area.{Area}
 use Rattle.types.specs.declared.Process.{Process}
 use Rattle.types.specs.declared.RecordCheck.{RecordCheck}
 use Rattle.types.specs.declared.Verdict.{Verdict}
-use Rattle.rules.specs.Lent.{Image, endOf, pagesIn, shareAddress}
+use Rattle.rules.specs.Lent.{Image, memoryArea, endOf, pagesIn, shareAddress}
 use Rattle.rules.specs.Block.{format, lengthField, processCount, processOffset, sectionCount, sectionOffset, regionCount, regionOffset, sectionsAt, regionsAt, tightLength}
-use Rattle.rules.specs.Block.{processAt, entryPoint, firstSection, sectionsOf, processRecord, stackFirst, sectionRecord, sectionAt, address, size, flashOffset, flags, noCopy, writable, executable, sectionEnd, firstPage, lastPage}
+use Rattle.rules.specs.Block.{processAt, entryPoint, firstSection, sectionsOf, processRecord, stackFirst, sectionRecord, ownerOf, sectionAt, address, size, flashOffset, flags, noCopy, writable, executable, sectionEnd, firstPage, lastPage}
 use Rattle.rules.specs.Block.{regionAt, regionStart, regionPages, regionArea, ioPagesOf}
+use Rattle.rules.specs.InPlace.{xipOf}
 use Rattle.rules.specs.Order.{pagesNeeded}
 
 -- 1: RAM is not whole pages or over 4,096 pages, its start is not a multiple of 4,096, or its end passes 2^32
@@ -24,6 +24,14 @@ ramUnfit ram = any
     ∷ ltb 4096 (ram .length / 4096)
     ∷ not (eqb (ram .start % 4096) 0)
     ∷ ltb 0x1_0000_0000 (endOf ram)
+    ∷ [])
+
+-- 13: flash's start is not a multiple of 4,096, its end passes 2^32, or it shares an address with RAM
+unfoldable pub flashUnfit : Area → Area → Bool
+flashUnfit flash ram = any
+    (not (eqb (flash .start % 4096) 0)
+    ∷ ltb 0x1_0000_0000 (endOf flash)
+    ∷ shareAddress flash ram
     ∷ [])
 
 -- 2
@@ -60,11 +68,13 @@ layoutNotTight b = any
 unfoldable pub sectionsBefore : List ℕ → ℕ → ℕ
 sectionsBefore b n = sum n (λ i. sectionsOf b (i + 1))
 
--- 6, for a process record, number i of p, where `before` is the sum of the section counts before it: its kind is not 0, its section
--- count is 0, its first section is not that sum, with its own count the sum passes s, or it is the last record and that sum is not s
+-- 6, for a process record, number i of p, where `before` is the sum of the section counts before it: its kind is 2 or more, or is 1 and it
+-- is the kernel's, its section count is 0, its first section is not that sum, with its own count the sum passes s, or it is the last
+-- record and that sum is not s
 unfoldable pub recordUnfit : Process → ℕ → ℕ → ℕ → ℕ → Bool
 recordUnfit r i p before s = any
-    (not (eqb (r .kind) 0)
+    (ltb 1 (r .kind)
+    ∷ (eqb (r .kind) 1 && eqb i 0)
     ∷ eqb (r .sections) 0
     ∷ not (eqb (r .«first_section») before)
     ∷ ltb s (before + r .sections)
@@ -84,15 +94,6 @@ sectionUnfit b n = any
     ∷ (writable b n && executable b n)
     ∷ (noCopy b n && not (eqb (flashOffset b n) 0))
     ∷ [])
-
--- section record n is one of the sections of process record i
-unfoldable pub hasSection : List ℕ → ℕ → ℕ → Bool
-hasSection b n i = leb (firstSection b (i + 1)) n && ltb n (firstSection b (i + 1) + sectionsOf b (i + 1))
-
--- the process that owns section record n, 0 where none does: where 6 is not given, each n below s has one owner (`section-owner` in
--- accepted/Sections)
-unfoldable pub ownerOf : List ℕ → ℕ → ℕ
-ownerOf b n = elim (findLast (hasSection b n) (processCount b)) [ none ↦ 0 | some i ↦ i + 1 ]
 
 -- the range for the sections of process q: its first and its last address. For a user process it ends below the stack, at 0x7FFFBFFF
 unfoldable pub rangeFirst : ℕ → ℕ
@@ -122,20 +123,21 @@ entryPointOutside b i = not (exists (λ j.
     (sectionsOf b (i + 1)))
 
 -- 11, for region record i: its start is not a multiple of 4,096, its pages are 0, it ends past 2^32, starts below the end of the
--- region before, shares an address with RAM, or brings the I/O total over 4,096
-unfoldable pub regionUnfit : List ℕ → Area → ℕ → Bool
-regionUnfit b ram i = any
+-- region before, shares an address with RAM or with flash, or brings the I/O total over 4,096
+unfoldable pub regionUnfit : List ℕ → Area → Area → ℕ → Bool
+regionUnfit b flash ram i = any
     (not (eqb (regionStart b i % 4096) 0)
     ∷ eqb (regionPages b i) 0
     ∷ ltb 0x1_0000_0000 (endOf (regionArea b i))
     ∷ (ltb 0 i && ltb (regionStart b i) (endOf (regionArea b (i - 1))))
     ∷ shareAddress ram (regionArea b i)
+    ∷ shareAddress flash (regionArea b i)
     ∷ ltb 4096 (ioPagesOf b (i + 1))
     ∷ [])
 
 -- 12: the pages needed exceed the N pages of RAM
-unfoldable pub ramTooSmall : List ℕ → ℕ → Bool
-ramTooSmall b N = ltb N (pagesNeeded b N)
+unfoldable pub ramTooSmall : Image → ℕ → Bool
+ramTooSmall x N = ltb N (pagesNeeded (x .block) (xipOf x) N)
 
 -- THE CHECK OF ONE RECORD: the number of the refusal, or 0, and the record's byte offset in the block
 abbrev pub recordCheck : ℕ → ℕ → RecordCheck
@@ -161,8 +163,8 @@ unfoldable pub entryPointCheck : List ℕ → ℕ → RecordCheck
 entryPointCheck b i = recordCheck (choose (entryPointOutside b i) 10 0) (processAt (i + 1))
 
 -- 11, of region record i
-unfoldable pub regionCheck : List ℕ → Area → ℕ → RecordCheck
-regionCheck b ram i = recordCheck (choose (regionUnfit b ram i) 11 0) (regionAt b i)
+unfoldable pub regionCheck : List ℕ → Area → Area → ℕ → RecordCheck
+regionCheck b flash ram i = recordCheck (choose (regionUnfit b flash ram i) 11 0) (regionAt b i)
 
 -- THE FIRST REFUSAL
 -- one step of the checks
@@ -191,9 +193,9 @@ firstRefusal [] = accepted
 firstRefusal (whole n c ∷ cs) = let later = firstRefusal cs in choose c (refused n 0 0) later
 firstRefusal (records n f ∷ cs) = let later = firstRefusal cs in firstRecord f 0 n later
 
--- ALL CHECKS, in 01's order: of what is lent, of the block alone, of what its records ask for and the room for it
-unfoldable pub lentChecks : Area → List Check
-lentChecks ram = whole 1 (ramUnfit ram) ∷ []
+-- ALL CHECKS, in 01's order, 13 after 1: of what is lent, of the block alone, of what its records ask for and the room for it
+unfoldable pub lentChecks : Area → Area → List Check
+lentChecks flash ram = whole 1 (ramUnfit ram) ∷ whole 13 (flashUnfit flash ram) ∷ []
 
 unfoldable pub headerChecks : List ℕ → List Check
 headerChecks b =
@@ -214,14 +216,14 @@ blockChecks b = headerChecks b ++ processChecks b
 unfoldable pub contentChecks : Image → Area → List Check
 contentChecks x ram =
     let b = x .block in
-    records (sectionCount b) (sectionCheck b (length (x .flash)))
+    records (sectionCount b) (sectionCheck b (length (x .flash .bytes)))
     ∷ records (processCount b) (entryPointCheck b)
-    ∷ records (regionCount b) (regionCheck b ram)
-    ∷ whole 12 (ramTooSmall b (pagesIn ram .pages))
+    ∷ records (regionCount b) (regionCheck b (memoryArea (x .flash)) ram)
+    ∷ whole 12 (ramTooSmall x (pagesIn ram .pages))
     ∷ []
 
 unfoldable pub checks : Image → Area → List Check
-checks x ram = lentChecks ram ++ (blockChecks (x .block) ++ contentChecks x ram)
+checks x ram = lentChecks (memoryArea (x .flash)) ram ++ (blockChecks (x .block) ++ contentChecks x ram)
 
 -- the first in this order wins
 unfoldable pub verdict : Image → Area → Verdict
@@ -233,5 +235,5 @@ wellFormed b = eqb (firstRefusal (blockChecks b) .number) 0
 
 -- all definitions of this file, to be unfolded as one
 unfoldable pub refusal-rules : Unit {0}
-unfolding ramUnfit blockTooShort formatUnknown outside countsOutside countsOutOfBounds layoutNotTight sectionsBefore recordUnfit processUnfit sectionUnfit hasSection ownerOf rangeFirst rangeLast sectionMisplaced sectionPastFlash entryPointOutside regionUnfit ramTooSmall processRecordCheck processCheck sectionRefusal sectionCheck entryPointCheck regionCheck refused accepted firstRecord firstRefusal lentChecks headerChecks processChecks blockChecks contentChecks checks verdict wellFormed
+unfolding ramUnfit flashUnfit blockTooShort formatUnknown outside countsOutside countsOutOfBounds layoutNotTight sectionsBefore recordUnfit processUnfit sectionUnfit rangeFirst rangeLast sectionMisplaced sectionPastFlash entryPointOutside regionUnfit ramTooSmall processRecordCheck processCheck sectionRefusal sectionCheck entryPointCheck regionCheck refused accepted firstRecord firstRefusal lentChecks headerChecks processChecks blockChecks contentChecks checks verdict wellFormed
 refusal-rules = tt

@@ -10,6 +10,9 @@ use types::PageRange;
 use types::PhysPage;
 use types::RamPage;
 
+// Where flash starts.
+const FLASH_START: u32 = 0x2000_0000;
+
 fn print(text: &[u8]) {
     io::write_all(STDOUT_FILENO, text);
 }
@@ -172,7 +175,7 @@ fn main() {
     let block = small_block::block();
     let flash = [0u8; small_block::FLASH];
     let mut ram = io::large_buffer();
-    let answer = loader::load(&block, &flash, &mut ram, START);
+    let answer = loader::load(&block, &flash, FLASH_START, &mut ram, START);
     // The tables of the last process are the lowest pages taken, its root the highest of them.
     let tables = order_leaves::table_count(&block, 2);
     let highest = wrapping_add_u32(answer.free, wrapping_sub_u32(tables, 1));

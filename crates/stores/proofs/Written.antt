@@ -128,9 +128,9 @@ chosen-written f {a} {b} d {t} r = record {
       | no m ↦ List·getD-eq-default (tab (length d) g) 0 {n = k} (omega (arith, tab-length (length d) g)) ∙ sym (List·getD-eq-default d 0 {n = k} (omega arith))
     ]
 
--- CLEARED
-pub cleared-is : {d₀ d : List ℕ} {i : ℕ} → Written (λ k. 0) 0 i d₀ d → length d₀ ≤ i → d ≡ tab (length d₀) (λ k. 0)
-cleared-is {d₀} {d} w h = tab-by (length d₀) _ 0 d (w .size) (λ k l. w .inside k (omega arith) (omega arith) l)
+-- ALL WRITTEN
+pub written-all : {f : ℕ → ℕ} {d₀ d : List ℕ} {i : ℕ} → Written f 0 i d₀ d → length d₀ ≤ i → d ≡ tab (length d₀) f
+written-all {d₀ = d₀} {d} w h = tab-by (length d₀) _ 0 d (w .size) (λ k l. w .inside k (omega arith) (omega arith) l)
 
 -- COPIED
 -- index k of a copy of s to index `at`
@@ -211,9 +211,9 @@ unfolding filled
 filled-written d from to v h = chosen-written (λ k. v) d (between (length d) from to h)
 
 -- COPIED, and 0 before and after the copy
-pub copied-cleared-is : (d₀ : List ℕ) (at : ℕ) (s : List ℕ) {end : ℕ} {d e f : List ℕ} → end ≡ min at (length d₀) + min (length s) (length d₀ - at)
+pub copied-written-all : (d₀ : List ℕ) (at : ℕ) (s : List ℕ) {end : ℕ} {d e f : List ℕ} → end ≡ min at (length d₀) + min (length s) (length d₀ - at)
     → d ≡ filled d₀ 0 at 0 → e ≡ copied d at s → f ≡ filled e end (length d₀) 0 → f ≡ copied (tab (length d₀) (λ k. 0)) at s
-copied-cleared-is d₀ at s {end} {d} {e} {f} ee h₁ h₂ h₃ = ext-getD 0 f (copied z at s) (w₃ .size ∙ w₂ .size ∙ w₁ .size ∙ sym (u .size ∙ zn)) (λ k h.
+copied-written-all d₀ at s {end} {d} {e} {f} ee h₁ h₂ h₃ = ext-getD 0 f (copied z at s) (w₃ .size ∙ w₂ .size ∙ w₁ .size ∙ sym (u .size ∙ zn)) (λ k h.
     let l : k < length d₀ = omega (arith, w₃ .size, w₂ .size, w₁ .size) in
     let zero : getD z k 0 ≡ 0 = tab-get (length d₀) _ k 0 l in
     elim (decLt k at) [

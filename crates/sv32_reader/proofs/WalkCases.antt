@@ -7,12 +7,12 @@ use borrow.Author.Tests.{le-leb, lt-leb}
 use Rattle.notation.specs.Choice.{choose}
 use Rattle.notation.specs.Words.{word}
 use Rattle.types.specs.declared.Entry.the-variants.{Absent}
-use Rattle.rules.specs.Lent.{Ram, liesIn}
+use Rattle.rules.specs.Lent.{Memory, liesIn}
 use Rattle.rules.specs.Entries.{decode}
 use Rattle.rules.specs.Reader.{tableEntry, rootAnswer, walk}
 
 -- TABLE-ENTRY: the table at physical address x starts below RAM, ends above it, or is inside
-module _ (r : Ram) (P i x : ℕ) (e : x ≡ 4096 * P) where
+module _ (r : Memory) (P i x : ℕ) (e : x ≡ 4096 * P) where
   pub table-entry-below : x < r .start → tableEntry r P i ≡ Absent
   unfolding tableEntry liesIn choose
   table-entry-below h = rw (← e, lt-leb (r .start) x h)
@@ -26,6 +26,6 @@ module _ (r : Ram) (P i x : ℕ) (e : x ≡ 4096 * P) where
   table-entry-inside h l = rw (← e, le-leb (r .start) x h, le-leb (x + 4096) (r .start + length (r .bytes)) l)
 
 -- WALK: it depends on the virtual page v alone
-pub walk-page : (r : Ram) (root v a : ℕ) → a / 4096 ≡ v → walk r root a ≡ rootAnswer r (v % 1024) (tableEntry r root (v / 1024))
+pub walk-page : (r : Memory) (root v a : ℕ) → a / 4096 ≡ v → walk r root a ≡ rootAnswer r (v % 1024) (tableEntry r root (v / 1024))
 unfolding walk
 walk-page r root v a e = let s : a / 4_194_304 ≡ v / 1024 = omega arith in rw (e, s)

@@ -1,10 +1,10 @@
 // Page table entries written into a lent table. A table may have any length; root slot m's leaf table has the entries of
 // virtual pages 1,024 m on.
 ghost use mathlib.Core.Path.{_≡_};
-ghost use Prim.Native.Nat.{_%_};
+ghost use Prim.Native.Nat.{_%_, _<_};
 ghost use lib.ListN.{set};
 ghost use Rattle.rules.specs.Entries.{pointerEntry};
-ghost use Rattle.sv32_tables.specs.Filled.{pagesMapped, stackReserved};
+ghost use Rattle.sv32_tables.specs.Filled.{nthPage, pagesMapped, stackReserved};
 use sv32_entries::RESERVED;
 use sv32_entries::page_entry;
 use sv32_entries::pointer_entry;
@@ -16,17 +16,30 @@ use types::VirtPage;
 // The virtual page where every stack ends.
 const STACK_END: usize = 0x8_0000;
 
+// The page n pages above page `first`, where they rise, else below it, or page 0 once they run out. A number is taken modulo 0x400000.
+fn nth_page(first: PhysPage, rises: bool, n: usize) -> PhysPage
+    requires { ⌜ n < 0x1_0000_0000_0000 ⌝ }
+    ensures { λ r. ⌜ r .0 % 0x40_0000 ≡ nthPage (first .0) rises n % 0x40_0000 ⌝ }
+{
+    let start = first.0 as usize;
+    if rises {
+        return PhysPage(((start + n) % 0x40_0000) as u32);
+    }
+    PhysPage(numbers::minus(start, n) as u32)
+}
+
 // Maps the virtual pages `from` to `to` that lie in the leaf table for root slot `slot`: `from` to physical page `first`,
-// each next one to the next lower page, or to page 0 once they run out.
+// each next one to the next higher page where they rise, else to the next lower.
 pub fn map_pages(
     entries: &mut [u32],
     slot: u32,
     from: VirtPage,
     to: VirtPage,
     first: PhysPage,
+    rises: bool,
     rights: Rights,
 )
-    ensures { λ _. ⌜ now (entries .exit) ≡ pagesMapped (now (entries .entry)) slot (from .0) (to .0) (first .0) rights ⌝ }
+    ensures { λ _. ⌜ now (entries .exit) ≡ pagesMapped (now (entries .entry)) slot (from .0) (to .0) (first .0) rises rights ⌝ }
 {
     let base = (TABLE_ENTRIES as usize) * (slot as usize);
     let start = from.0 as usize;
@@ -34,8 +47,7 @@ pub fn map_pages(
     let end = numbers::least(past, entries.len());
     let mut i = numbers::minus(start, base);
     while i < end {
-        let page = numbers::minus(first.0 as usize, base + i - start) as u32;
-        entries[i] = page_entry(PhysPage(page), rights);
+        entries[i] = page_entry(nth_page(first, rises, base + i - start), rights);
         i += 1;
     }
 }

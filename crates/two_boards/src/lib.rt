@@ -1,6 +1,6 @@
-// Demands 2 and 3 as calls: one load, and what a process sees after it; and the same block and flash on two RAMs.
+// Demands 2 and 3 as calls: one load, and what a process sees after it; and the same block and flash, at one address, on two RAMs.
 ghost use mathlib.Core.Path.{_≡_};
-ghost use Rattle.rules.specs.Lent.{imageOf, ramOf};
+ghost use Rattle.rules.specs.Lent.{imageOf, memoryOf};
 ghost use Rattle.two_boards.specs.Promise.{seenAt, OneBoard, TwoBoards};
 use order_roots::Root;
 use types::Answer;
@@ -18,29 +18,38 @@ pub struct Boards {
 }
 
 // What is seen by way of a root, or nothing.
-fn seen_at(root: Root, ram: &[u8], start: u32, address: u32) -> View
-    ensures { λ r. ⌜ r ≡ seenAt root (ramOf start (now (ram .entry))) address ⌝ }
+fn seen_at<'a>(
+    root: Root,
+    ram: &'a [u8],
+    start: u32,
+    flash: &'a [u8],
+    flash_start: u32,
+    address: u32,
+) -> View
+    ensures { λ r. ⌜ r ≡ seenAt root (memoryOf start (now (ram .entry))) (memoryOf «flash_start» (now (flash .entry))) address ⌝ }
 {
     match root {
         Root::Nowhere => View::Absent,
-        Root::At(page) => sv32_views::seen_from(ram, start, page, address),
+        Root::At(page) => sv32_views::seen_from(ram, start, flash, flash_start, page, address),
     }
 }
 
-// Loads block and flash into RAM, and asks what process q sees at an address. Its root is found by the order of pages.
+// Loads block and flash, at physical address `flash_start`, into RAM, and asks what process q sees at an address. Its root is found by
+// the order of pages.
 pub fn boot_one(
     block: &[u8],
     flash: &[u8],
+    flash_start: u32,
     ram: &mut [u8],
     start: u32,
     q: u32,
     address: u32,
 ) -> Board
-    ensures { λ r. ⌜ OneBoard (imageOf (now (block .entry)) (now (flash .entry))) (ramOf start (now (ram .entry))) (now (ram .exit)) q address r ⌝ }
+    ensures { λ r. ⌜ OneBoard (imageOf (now (block .entry)) «flash_start» (now (flash .entry))) (memoryOf start (now (ram .entry))) (now (ram .exit)) q address r ⌝ }
 {
-    let root = order_roots::find_root(block, flash, start, ram.len(), q);
-    let answer = loader::load(block, flash, ram, start);
-    let seen = seen_at(root, ram, start, address);
+    let root = order_roots::find_root(block, flash, flash_start, start, ram.len(), q);
+    let answer = loader::load(block, flash, flash_start, ram, start);
+    let seen = seen_at(root, ram, start, flash, flash_start, address);
     Board { answer, seen }
 }
 
@@ -48,6 +57,7 @@ pub fn boot_one(
 pub fn boot_both(
     block: &[u8],
     flash: &[u8],
+    flash_start: u32,
     ram: &mut [u8],
     start: u32,
     second_ram: &mut [u8],
@@ -55,9 +65,17 @@ pub fn boot_both(
     q: u32,
     address: u32,
 ) -> Boards
-    ensures { λ r. ⌜ TwoBoards (imageOf (now (block .entry)) (now (flash .entry))) (ramOf start (now (ram .entry))) (ramOf «second_start» (now («second_ram» .entry))) (now (ram .exit)) (now («second_ram» .exit)) q address r ⌝ }
+    ensures { λ r. ⌜ TwoBoards (imageOf (now (block .entry)) «flash_start» (now (flash .entry))) (memoryOf start (now (ram .entry))) (memoryOf «second_start» (now («second_ram» .entry))) (now (ram .exit)) (now («second_ram» .exit)) q address r ⌝ }
 {
-    let first = boot_one(block, flash, ram, start, q, address);
-    let second = boot_one(block, flash, second_ram, second_start, q, address);
+    let first = boot_one(block, flash, flash_start, ram, start, q, address);
+    let second = boot_one(
+        block,
+        flash,
+        flash_start,
+        second_ram,
+        second_start,
+        q,
+        address,
+    );
     Boards { first, second }
 }

@@ -27,7 +27,7 @@ pub struct PhysPage(pub u32);
 // Physical addresses from `start` on: `length` bytes.
 pub struct Area {
     pub start: u32,
-    pub length: u32,
+    pub length: usize,
 }
 
 // RAM as whole pages: `pages` of them, from physical page `base` on.
@@ -59,7 +59,7 @@ pub enum View {
     Absent,
     Reserved,
     Page(Rights, u8),
-    // A page whose byte lies outside RAM: never after a boot.
+    // A page that lies wholly neither in RAM nor in flash: never after a boot.
     Outside(Rights),
 }
 

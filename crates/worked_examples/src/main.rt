@@ -8,6 +8,9 @@ const B: u32 = 0x0002_0000;
 
 const REGION: u32 = 0xF000_0000;
 
+// Where flash starts.
+const FLASH_START: u32 = 0x2000_0000;
+
 // Prints the name and the listing. Flash has 320 bytes at most, RAM 16 pages.
 fn list(name: &[u8], block: &[u8], flash_bytes: usize, pages: usize) {
     let flash = [0u8; small_block::FLASH];
@@ -17,6 +20,7 @@ fn list(name: &[u8], block: &[u8], flash_bytes: usize, pages: usize) {
     let n = report::load_listing(
         block,
         slices::part(&flash, 0, flash_bytes),
+        FLASH_START,
         &mut ram[..end],
         small_block::START,
         &mut text,

@@ -26,7 +26,16 @@ returns-5 c = rw (eq-eqb _ _ (c .before .before .before .before .if1 .left), ne-
 
 returns-6 : tie.Need-returns-6
 unfolding any
-returns-6 c = rw (eq-eqb _ _ (c .before .before .before .before .if1 .left), ne-eqb _ _ (c .before .before .before .if2 .left), le-ltb _ _ (c .before .before .if3 .left), c .before .if4 .left, c .if5 .left) (or-none _)
+returns-6 c =
+    let e = c .before .before in
+    rw (eq-eqb _ _ (e .before .before .before .if1 .left), ne-eqb _ _ (e .before .before .if2 .left), le-ltb _ _ (e .before .if3 .left), e .if4 .left, c .before .if5 .left, c .if6 .taken)
+
+returns-7 : tie.Need-returns-7
+unfolding any
+returns-7 c =
+    let e = c .before .before in
+    rw (eq-eqb _ _ (e .before .before .before .if1 .left), ne-eqb _ _ (e .before .before .if2 .left), le-ltb _ _ (e .before .if3 .left), e .if4 .left, c .before .if5 .left, c .if6 .left) (or-none _)
 
 pub record-unfit-spec : {M : Type 1} → statement M
-record-unfit-spec = tie.close (tie.spec returns returns-2 returns-3 returns-4 returns-5 returns-6)
+record-unfit-spec =
+    tie.close (tie.spec returns returns-2 returns-3 returns-4 returns-5 returns-6 returns-7)

@@ -4,7 +4,6 @@ use Prim.Native.Nat.{_≤_, _-_}
 use native.Mathlib.Nat.{sub-zero}
 use native.Mathlib.Omega.{arith}
 use borrow.Author.Needs.{needs}
-use Rattle.rules.specs.Lent.{imageOf}
 use Rattle.rules.specs.Refusals.{accepted, firstRecord, firstRefusal}
 use Rattle.checks.specs.Scan.{checkAt, scanOf}
 use Rattle.accepted.specs.InOrder.{scan-end, scan-next, scan-stop}
@@ -15,8 +14,7 @@ use Rattle.checks.proofs.scan_refusal.Tie as tie
 -- the records from i on give what all give
 abbrev Inv-loop : tie.InvT-loop
 Inv-loop scan block flash ram n i₀ i =
-    let x = imageOf block flash in
-    (i ≤ n) × (firstRecord (checkAt scan x ram) i (n - i) accepted ≡ firstRefusal (scanOf scan x ram ∷ []))
+    (i ≤ n) × (firstRecord (checkAt scan block flash ram) i (n - i) accepted ≡ firstRefusal (scanOf scan block flash ram ∷ []))
 
 abbrev μ-loop : tie.MeasureT-loop
 μ-loop scan block flash ram n i₀ i = n - i
@@ -35,7 +33,7 @@ cast-refused : tie.Need-cast-refused Inv-loop μ-loop
 cast-refused c =
     let k = c .before .before .before in
     let l = k .before .before in
-    omega (arith, offset-fits _ _ _ _ _ _ (l .before .before .before .before .pre) (l .before .record-count .ensures) (k .before .loop-test .taken) (k .check-at .ensures))
+    omega (arith, offset-fits _ _ _ _ _ _ _ (l .before .before .before .pre) (l .before .record-count .ensures) (k .before .loop-test .taken) (k .check-at .ensures))
 
 refused-requires : tie.Need-refused-requires Inv-loop μ-loop
 refused-requires c κs = search needs

@@ -2,7 +2,7 @@ use Prim.Native.Nat.{_-_, _≤_}
 use Rattle.notation.specs.Lists.{gather}
 use Rattle.writing.specs.Uses.{Wrote, wrote-gather-none, wrote-gather-next}
 use Rattle.writing.specs.Loaded.{sectionContent}
-use Rattle.rules.specs.Lent.{imageOf}
+use Rattle.xip_sections.specs.Marks.{marked}
 use Rattle.rules.specs.Order.{sectionPages}
 use Rattle.load_sections.proofs.Turns.{process-end}
 use native.Mathlib.Omega.{arith}
@@ -11,10 +11,10 @@ use Rattle.load_sections.proofs.load_process.Statement.{statement}
 use Rattle.load_sections.proofs.load_process.Tie as tie
 
 abbrev Inv-loop : tie.InvT-loop
-Inv-loop ram₀ block flash q count next₀ j₀ ram next j = (j ≤ count) × Wrote (sectionContent (imageOf block flash)) (gather j (sectionPages block q)) ram₀ (next₀ .left) ram (next .left)
+Inv-loop ram₀ block flash xip q count next₀ j₀ ram next j = (j ≤ count) × Wrote (sectionContent block flash) (gather j (sectionPages block (marked xip) q)) ram₀ (next₀ .left) ram (next .left)
 
 abbrev μ-loop : tie.MeasureT-loop
-μ-loop ram₀ block flash q count next₀ j₀ ram next j = count - j
+μ-loop ram₀ block flash xip q count next₀ j₀ ram next j = count - j
 
 read-process-requires : tie.Need-read-process-requires Inv-loop μ-loop
 read-process-requires c κs = search needs
@@ -40,7 +40,7 @@ same-length : tie.Need-same-length Inv-loop μ-loop
 same-length c = search needs
 
 returns : tie.Need-returns Inv-loop μ-loop
-returns c = process-end _ _ _ (c .before .loop .inv .1) (omega (arith, c .before .before .read-process .ensures .sections-of))
+returns c = process-end _ _ _ _ _ (c .before .loop .inv .1) (omega (arith, c .before .before .read-process .ensures .sections-of))
 
 pub load-process-spec : {M : Type 1} → statement M
 load-process-spec =

@@ -1,7 +1,7 @@
 use Prim.Native.Nat.{_+_, _-_, _≤_}
 use Rattle.notation.specs.Lists.{gather}
 use Rattle.rules.specs.Order.{sectionUses}
-use Rattle.rules.specs.Lent.{imageOf}
+use Rattle.xip_sections.specs.Marks.{marked}
 use Rattle.writing.specs.Uses.{Wrote, wrote-gather-none, wrote-gather-next}
 use Rattle.writing.specs.Loaded.{sectionContent}
 use Rattle.load_sections.proofs.Turns.{sections-end}
@@ -11,10 +11,10 @@ use Rattle.load_sections.proofs.load_sections.Statement.{statement}
 use Rattle.load_sections.proofs.load_sections.Tie as tie
 
 abbrev Inv-loop : tie.InvT-loop
-Inv-loop ram₀ block flash users next₀ i₀ ram next i = (i ≤ users) × Wrote (sectionContent (imageOf block flash)) (gather i (λ i. sectionUses block (i + 2))) ram₀ (next₀ .left) ram (next .left)
+Inv-loop ram₀ block flash xip users next₀ i₀ ram next i = (i ≤ users) × Wrote (sectionContent block flash) (gather i (λ i. sectionUses block (marked xip) (i + 2))) ram₀ (next₀ .left) ram (next .left)
 
 abbrev μ-loop : tie.MeasureT-loop
-μ-loop ram₀ block flash users next₀ i₀ ram next i = users - i
+μ-loop ram₀ block flash xip users next₀ i₀ ram next i = users - i
 
 process-count-requires : tie.Need-process-count-requires Inv-loop μ-loop
 process-count-requires c κs = search needs
@@ -46,7 +46,7 @@ loop-less c = search needs
 loop-again : tie.Need-loop-again Inv-loop μ-loop
 loop-again c =
     let call = c .before .before in
-    (omega arith, wrote-gather-next _ (λ i. sectionUses _ (i + 2)) _ (call .before .before .before .loop .inv .1) (call .load-process .ensures))
+    (omega arith, wrote-gather-next _ (λ i. sectionUses _ _ (i + 2)) _ (call .before .before .before .loop .inv .1) (call .load-process .ensures))
 
 load-process-requires-2 : tie.Need-load-process-requires-2 Inv-loop μ-loop
 load-process-requires-2 c κs = search needs
@@ -58,7 +58,7 @@ returns : tie.Need-returns Inv-loop μ-loop
 returns c =
     let call = c .before .before in
     let loop = call .before .before .before in
-    sections-end _ _ (loop .loop .inv .1) (omega (arith, loop .before .minus .ensures, loop .before .before .process-count .ensures))
+    sections-end _ _ _ _ (loop .loop .inv .1) (omega (arith, loop .before .minus .ensures, loop .before .before .process-count .ensures))
     (call .load-process2 .ensures)
 
 pub load-sections-spec : {M : Type 1} → statement M

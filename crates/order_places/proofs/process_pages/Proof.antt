@@ -1,6 +1,7 @@
 use mathlib.Core.Path.{_≡_, sym}
 use Prim.Native.Nat.{_-_, _*_, _≤_}
 use Rattle.order_laws.specs.Places.{pagesBefore, pages-before-none}
+use Rattle.xip_sections.specs.Marks.{marked}
 use Rattle.order_places.proofs.ProcessPages.{one-more, all-pages}
 use native.Mathlib.Omega.{arith}
 use borrow.Author.Needs.{needs}
@@ -8,34 +9,37 @@ use Rattle.order_places.proofs.process_pages.Statement.{statement}
 use Rattle.order_places.proofs.process_pages.Tie as tie
 
 abbrev Inv-loop : tie.InvT-loop
-Inv-loop block q first count pages₀ j₀ pages j = (j ≤ count) × (pages ≡ pagesBefore block q j) × (pages ≤ 0x20_0000 * j)
+Inv-loop block xip q first count pages₀ j₀ pages j = (j ≤ count) × (pages ≡ pagesBefore block (marked xip) q j) × (pages ≤ 0x20_0000 * j)
 
 abbrev μ-loop : tie.MeasureT-loop
-μ-loop block q first count pages₀ j₀ pages j = count - j
+μ-loop block xip q first count pages₀ j₀ pages j = count - j
 
 read-process-requires : tie.Need-read-process-requires Inv-loop μ-loop
 read-process-requires c κs = search needs
 
 loop-holds : tie.Need-loop-holds Inv-loop μ-loop
-loop-holds c = (search needs, sym (pages-before-none _ _), omega arith)
+loop-holds c = (search needs, sym (pages-before-none _ _ _), omega arith)
 
-cast-read-section : tie.Need-cast-read-section Inv-loop μ-loop
-cast-read-section c = search needs
+cast-n : tie.Need-cast-n Inv-loop μ-loop
+cast-n c = search needs
 
-cast-read-section-2 : tie.Need-cast-read-section-2 Inv-loop μ-loop
-cast-read-section-2 c = search needs
+cast-n-2 : tie.Need-cast-n-2 Inv-loop μ-loop
+cast-n-2 c = search needs
 
-add-read-section : tie.Need-add-read-section Inv-loop μ-loop
-add-read-section c = search needs
+add-n : tie.Need-add-n Inv-loop μ-loop
+add-n c = search needs
 
 read-section-requires : tie.Need-read-section-requires Inv-loop μ-loop
 read-section-requires c κs = search needs
+
+pages-taken-requires : tie.Need-pages-taken-requires Inv-loop μ-loop
+pages-taken-requires c κs = search needs
 
 cast-pages : tie.Need-cast-pages Inv-loop μ-loop
 cast-pages c = search needs
 
 add-pages : tie.Need-add-pages Inv-loop μ-loop
-add-pages c = omega (arith, c .before .read-section .ensures .pages-few)
+add-pages c = omega (arith, c .before .read-section .ensures .pages-few, c .pages-taken .ensures .1)
 
 add-j : tie.Need-add-j Inv-loop μ-loop
 add-j c = search needs
@@ -47,10 +51,14 @@ loop-again : tie.Need-loop-again Inv-loop μ-loop
 loop-again c =
     let loop = c .before .before .before in
     let read = c .before .read-section .ensures in
-    (omega arith, one-more _ _ _ (loop .loop .inv .1) (read .pages-taken) (loop .before .read-process .ensures .first-section), omega (arith, read .pages-few))
+    let taken = c .pages-taken .ensures in (
+      omega arith,
+      one-more _ _ _ _ (loop .loop .inv .1) (read .page-count) (taken .0) (loop .before .read-process .ensures .first-section),
+      omega (arith, read .pages-few, taken .1),
+    )
 
 returns : tie.Need-returns Inv-loop μ-loop
-returns c = (all-pages _ _ _ (c .before .loop .inv .1) (omega (arith, c .before .before .read-process .ensures .sections-of)), omega arith)
+returns c = (all-pages _ _ _ _ (c .before .loop .inv .1) (omega (arith, c .before .before .read-process .ensures .sections-of)), omega arith)
 
 pub process-pages-spec : {M : Type 1} → statement M
 process-pages-spec =
@@ -60,10 +68,11 @@ process-pages-spec =
     μ-loop
     read-process-requires
     loop-holds
-    cast-read-section
-    cast-read-section-2
-    add-read-section
+    cast-n
+    cast-n-2
+    add-n
     read-section-requires
+    pages-taken-requires
     cast-pages
     add-pages
     add-j

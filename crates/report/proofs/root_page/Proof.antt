@@ -17,12 +17,12 @@ enum-known-page c = search needs
 returns : tie.Need-returns
 returns c =
     let start = c .before .before .before .before .before in
-    root-is (imageOf (start .args .block .now) (start .args .flash .now)) _ _ _ Nowhere (start .pre .0) (start .pre .1) (start .pre .2) (c .before .before .find-root .ensures) (c .enum-told .given .1)
+    root-is (imageOf (start .args .block .now) (start .args .flash-start) (start .args .flash .now)) _ _ _ Nowhere (start .pre .0) (start .pre .1) (start .pre .2) (c .before .before .find-root .ensures) (c .enum-told .given .1)
 
 returns-2 : tie.Need-returns-2
 returns-2 c =
     let start = c .before .before .before .before .before .before in
-    root-is (imageOf (start .args .block .now) (start .args .flash .now)) _ _ _ (At _) (start .pre .0) (start .pre .1) (start .pre .2) (c .before .before .before .find-root .ensures) (c .before .page .given .1)
+    root-is (imageOf (start .args .block .now) (start .args .flash-start) (start .args .flash .now)) _ _ _ (At _) (start .pre .0) (start .pre .1) (start .pre .2) (c .before .before .before .find-root .ensures) (c .before .page .given .1)
 
 pub root-page-spec : {M : Type 1} → statement M
 root-page-spec =

@@ -11,7 +11,7 @@ returns : tie.Need-returns
 returns c =
     let checked = c .before .before in
     let start = checked .before .before .before .before in
-    process-refused (imageOf _ (start .args .flash .now)) _ _ (checked .check .ensures) _ _ (c .if1 .taken)
+    process-refused (imageOf _ _ (start .args .flash .now)) _ _ (checked .check .ensures) _ _ (c .if1 .taken)
 
 find-root-requires : tie.Need-find-root-requires
 find-root-requires c κs = search needs

@@ -1,4 +1,4 @@
-use Rattle.stores.proofs.Written.{copied-cleared-is}
+use Rattle.stores.proofs.Written.{copied-written-all}
 use native.Mathlib.Omega.{arith}
 use borrow.Author.Needs.{needs}
 use Rattle.stores.proofs.copy_and_clear.Statement.{statement}
@@ -33,7 +33,7 @@ returns c =
     let at-copy = c .before .before .before .before .before .before in
     let at-fill = at-copy .before .before .before .before in
     let args = at-fill .before .before .before .before .before .before .before .args in
-    copied-cleared-is (args .to .now) (args .at) (args .from .now) (omega arith) (at-fill .fill .ensures) (at-copy .copy-in .ensures) (c .before .before .fill2 .ensures)
+    copied-written-all (args .to .now) (args .at) (args .from .now) (omega arith) (at-fill .fill .ensures) (at-copy .copy-in .ensures) (c .before .before .fill2 .ensures)
 
 pub copy-and-clear-spec : {M : Type 1} → statement M
 copy-and-clear-spec =

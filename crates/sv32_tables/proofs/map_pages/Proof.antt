@@ -2,7 +2,7 @@ use mathlib.Core.Path.{_∙_}
 use Prim.Native.Nat.{_+_, _-_, _*_, _%_}
 use borrow.Author.Count.{falls}
 use Rattle.rules.specs.Entries.{pageEntry}
-use Rattle.sv32_tables.specs.Filled.{pagesMapped}
+use Rattle.sv32_tables.specs.Filled.{nthPage, pagesMapped}
 use Rattle.sv32_tables.proofs.Filling.{Filling, filling-none, filling-more, filling-through}
 use borrow.Author.Needs.{needs}
 use Rattle.sv32_tables.proofs.map_pages.Statement.{statement}
@@ -10,11 +10,11 @@ use Rattle.sv32_tables.proofs.map_pages.Tie as tie
 
 -- so far the pages below index i are mapped
 abbrev Inv-loop : tie.InvT-loop
-Inv-loop entries₀ slot first rights base start past end i₀ entries i =
-    Filling (λ k. pageEntry ((first .0 - (1024 * slot + k - start)) % 0x40_0000) rights) i₀ end i entries₀ entries
+Inv-loop entries₀ slot first rises rights base start past end i₀ entries i =
+    Filling (λ k. pageEntry (nthPage (first .0) rises (1024 * slot + k - start) % 0x40_0000) rights) i₀ end i entries₀ entries
 
 abbrev μ-loop : tie.MeasureT-loop
-μ-loop entries₀ slot first rights base start past end i₀ entries i = end - i
+μ-loop entries₀ slot first rises rights base start past end i₀ entries i = end - i
 
 cast-base : tie.Need-cast-base Inv-loop μ-loop
 cast-base c = search needs
@@ -43,20 +43,14 @@ minus-requires-2 c κs = search needs
 loop-holds : tie.Need-loop-holds Inv-loop μ-loop
 loop-holds c = filling-none _ _ _ _
 
-cast-minus-2 : tie.Need-cast-minus-2 Inv-loop μ-loop
-cast-minus-2 c = search needs
+add-nth-page : tie.Need-add-nth-page Inv-loop μ-loop
+add-nth-page c = search needs
 
-add-minus-2 : tie.Need-add-minus-2 Inv-loop μ-loop
-add-minus-2 c = search needs
+sub-nth-page : tie.Need-sub-nth-page Inv-loop μ-loop
+sub-nth-page c = search needs
 
-sub-minus : tie.Need-sub-minus Inv-loop μ-loop
-sub-minus c = search needs
-
-minus-requires-3 : tie.Need-minus-requires-3 Inv-loop μ-loop
-minus-requires-3 c κs = search needs
-
-cast-page : tie.Need-cast-page Inv-loop μ-loop
-cast-page c = search needs
+nth-page-requires : tie.Need-nth-page-requires Inv-loop μ-loop
+nth-page-requires c κs = search needs
 
 page-entry-requires : tie.Need-page-entry-requires Inv-loop μ-loop
 page-entry-requires c κs = search needs
@@ -71,11 +65,11 @@ add-i : tie.Need-add-i Inv-loop μ-loop
 add-i c = search needs
 
 loop-less : tie.Need-loop-less Inv-loop μ-loop
-loop-less c = falls _ _ (c .before .before .before .loop-test .taken)
+loop-less c = falls _ _ (c .before .before .loop-test .taken)
 
 loop-again : tie.Need-loop-again Inv-loop μ-loop
 loop-again c =
-    filling-more (c .before .before .before .before .loop .inv) (c .before .before .before .loop-test .taken) (c .page-entry .ensures ∙ rw (c .before .minus3 .ensures))
+    filling-more (c .before .before .before .loop .inv) (c .before .before .loop-test .taken) (c .page-entry .ensures ∙ rw (c .before .nth-page .ensures))
 
 same-length : tie.Need-same-length Inv-loop μ-loop
 same-length c = search needs
@@ -101,11 +95,9 @@ map-pages-spec =
     least-requires
     minus-requires-2
     loop-holds
-    cast-minus-2
-    add-minus-2
-    sub-minus
-    minus-requires-3
-    cast-page
+    add-nth-page
+    sub-nth-page
+    nth-page-requires
     page-entry-requires
     mul-entries
     slice-write-entries

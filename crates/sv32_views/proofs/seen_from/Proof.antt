@@ -12,7 +12,7 @@ shown-requires c κs = search needs
 
 returns : tie.Need-returns
 unfolding seenFrom
-returns c = c .shown .ensures ∙ ap (shown _ _) (c .before .walk .ensures)
+returns c = c .shown .ensures ∙ ap (shown _ _ _) (c .before .walk .ensures)
 
 pub seen-from-spec : {M : Type 1} → statement M
 seen-from-spec = tie.close (tie.spec walk-requires shown-requires returns)

@@ -32,7 +32,7 @@ unfolding shown
 returns-3 c = search needs
 
 returns-4 : tie.Need-returns-4
-returns-4 c = c .page-shown .ensures ∙ sym (ap (shown _ _) (c .before .before .e .given .1))
+returns-4 c = c .page-shown .ensures ∙ sym (ap (shown _ _ _) (c .before .before .e .given .1))
 
 pub shown-spec : {M : Type 1} → statement M
 shown-spec =

@@ -1,4 +1,4 @@
-use Rattle.rules.specs.Lent.{imageOf, ramOf}
+use Rattle.rules.specs.Lent.{imageOf, memoryOf}
 use Rattle.two_boards.proofs.FromTheorems.{one-board}
 use borrow.Author.Needs.{needs}
 use Rattle.two_boards.proofs.boot_one.Statement.{statement}
@@ -20,7 +20,7 @@ returns : tie.Need-returns
 returns c =
     let loaded = c .before .before .before .before in
     let start = loaded .before .before .before .before .before .before in
-    one-board (imageOf _ (start .args .flash .now)) (ramOf _ (start .args .ram .now)) _ _ _ _ _ _ (search needs) (loaded .before .before .find-root .ensures)
+    one-board (imageOf _ _ (start .args .flash .now)) (memoryOf _ (start .args .ram .now)) _ _ _ _ _ _ (search needs) (loaded .before .before .find-root .ensures)
     (loaded .load .ensures .0) (loaded .load .ensures .1) (c .seen-at .ensures)
 
 pub boot-one-spec : {M : Type 1} → statement M

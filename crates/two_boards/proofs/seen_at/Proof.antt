@@ -16,7 +16,7 @@ returns : tie.Need-returns
 returns c = search needs
 
 returns-2 : tie.Need-returns-2
-returns-2 c = seen-by-way _ _ _ _ (c .before .before .root .given .1) (c .seen-from .ensures)
+returns-2 c = seen-by-way _ _ _ _ _ (c .before .before .root .given .1) (c .seen-from .ensures)
 
 pub seen-at-spec : {M : Type 1} → statement M
 seen-at-spec = tie.close (tie.spec enum-told enum-known-root seen-from-requires returns returns-2)

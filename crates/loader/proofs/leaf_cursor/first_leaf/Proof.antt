@@ -4,7 +4,7 @@ use Rattle.loader.proofs.leaf_cursor.first_leaf.Statement.{statement}
 use Rattle.loader.proofs.leaf_cursor.first_leaf.Tie as tie
 
 leaf-from-requires : tie.Need-leaf-from-requires
-leaf-from-requires c κs = (c .before .pre .0, passed-none 0 (c .before .pre .1))
+leaf-from-requires c κs = (c .before .before .pre .0, passed-none 0 (c .before .before .pre .1))
 
 returns : tie.Need-returns
 returns c = search needs

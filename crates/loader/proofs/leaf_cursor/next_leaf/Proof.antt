@@ -8,7 +8,7 @@ add-leaf-from : tie.Need-add-leaf-from
 add-leaf-from c = search needs
 
 leaf-from-requires : tie.Need-leaf-from-requires
-leaf-from-requires c κs = let pre = c .before .before .pre in (pre .0, passed-later _ (pre .2) (omega arith))
+leaf-from-requires c κs = let pre = c .before .before .before .pre in (pre .0, passed-later _ (pre .2) (omega arith))
 
 returns : tie.Need-returns
 returns c = search needs

@@ -1,7 +1,6 @@
 use mathlib.Core.Path.{_≡_, refl}
 use Rattle.notation.specs.Choice.{choose}
 use Rattle.laws.specs.Choice.{by-test}
-use Rattle.types.specs.declared.Rights.{Rights}
 use mathlib.Core.Bool.{true, false}
 use Rattle.rules.specs.Space.{kernelRead, kernelWrite}
 use Rattle.loader.proofs.leaf_entries.kernel_rights.Statement.{statement}

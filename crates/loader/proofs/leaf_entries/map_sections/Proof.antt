@@ -1,7 +1,7 @@
 use mathlib.Core.Path.{_≡_, refl}
-use Prim.Native.Nat.{_-_, _≤_}
+use Prim.Native.Nat.{_-_, _/_, _≤_}
 use lib.ListN.{length}
-use Rattle.page_allocator.proofs.PageAt.{page-inside}
+use Rattle.xip_sections.specs.Marks.{marked}
 use Rattle.loader.proofs.LeafEntries.{Mapped, mapped-from, mapped-more, mapped-stop, mapped-all}
 use native.Mathlib.Omega.{arith}
 use borrow.Author.Needs.{needs}
@@ -9,28 +9,28 @@ use Rattle.loader.proofs.leaf_entries.map_sections.Statement.{statement
 use Rattle.loader.proofs.leaf_entries.map_sections.Tie as tie
 
 abbrev Inv-loop : tie.InvT-loop
-Inv-loop entries₀ block range q leaf first count place₀ j₀ entries place j =
-    (j ≤ count) × (length entries ≡ length entries₀) × Mapped block range q (leaf .slot) j place entries
+Inv-loop entries₀ block xip flash-start range q leaf first count place₀ j₀ entries place j =
+    (j ≤ count) × (length entries ≡ length entries₀) × Mapped block (marked xip) (flash-start / 4096) range q (leaf .slot) j place entries
 
 abbrev μ-loop : tie.MeasureT-loop
-μ-loop entries₀ block range q leaf first count place₀ j₀ entries place j = count - j
+μ-loop entries₀ block xip flash-start range q leaf first count place₀ j₀ entries place j = count - j
 
 read-process-requires : tie.Need-read-process-requires Inv-loop μ-loop
 read-process-requires c κs = search needs
 
 loop-holds : tie.Need-loop-holds Inv-loop μ-loop
 loop-holds c =
-    let pre = c .before .before .before .pre in
-    (omega (arith, pre .2 .inside, c .read-process .ensures .sections-of), refl, mapped-from (pre .0) (pre .1) (pre .2) (pre .3))
+    let pre = c .before .before .before .before .pre in
+    (omega (arith, pre .3 .inside, c .read-process .ensures .sections-of), refl, mapped-from (pre .0) (pre .2) (pre .3) (pre .4))
 
-cast-read-section : tie.Need-cast-read-section Inv-loop μ-loop
-cast-read-section c = search needs
+cast-n : tie.Need-cast-n Inv-loop μ-loop
+cast-n c = search needs
 
-cast-read-section-2 : tie.Need-cast-read-section-2 Inv-loop μ-loop
-cast-read-section-2 c = search needs
+cast-n-2 : tie.Need-cast-n-2 Inv-loop μ-loop
+cast-n-2 c = search needs
 
-add-read-section : tie.Need-add-read-section Inv-loop μ-loop
-add-read-section c = search needs
+add-n : tie.Need-add-n Inv-loop μ-loop
+add-n c = search needs
 
 read-section-requires : tie.Need-read-section-requires Inv-loop μ-loop
 read-section-requires c κs = search needs
@@ -43,12 +43,15 @@ returns c =
     let read = c .before .before .before in
     let loop = read .before .before in
     let process = loop .before .read-process .ensures in
-    let pre = loop .before .before .before .before .pre in
-    mapped-stop (loop .loop .inv .2) (pre .1) (process .first-section)
+    let pre = loop .before .before .before .before .before .pre in
+    mapped-stop (loop .loop .inv .2) (pre .2) (process .first-section)
     (omega (arith, read .before .loop-test .taken, process .sections-of)) (read .read-section .ensures) (c .if1 .taken)
 
-page-at-requires : tie.Need-page-at-requires Inv-loop μ-loop
-page-at-requires c κs = search needs
+is-marked-requires : tie.Need-is-marked-requires Inv-loop μ-loop
+is-marked-requires c κs = search needs
+
+first-page-requires : tie.Need-first-page-requires Inv-loop μ-loop
+first-page-requires c κs = search needs
 
 section-rights-requires : tie.Need-section-rights-requires Inv-loop μ-loop
 section-rights-requires c κs = search needs
@@ -56,16 +59,19 @@ section-rights-requires c κs = search needs
 map-pages-requires : tie.Need-map-pages-requires Inv-loop μ-loop
 map-pages-requires c κs = search needs
 
+pages-taken-requires : tie.Need-pages-taken-requires Inv-loop μ-loop
+pages-taken-requires c κs = search needs
+
 add-place : tie.Need-add-place Inv-loop μ-loop
 add-place c =
-    let read = c .before .before .before .before .before .before .before .before .before .before in
+    let read = c .before .before .before .before .before .before .before .before .before .before .before in
     let loop = read .before .before in
-    let fits = loop .before .before .before .before .pre .0 in
-    omega (arith, read .read-section .ensures .pages-few, loop .loop .inv .2 .room, fits .few-pages)
+    let fits = loop .before .before .before .before .before .pre .0 in
+    omega (arith, c .pages-taken .ensures .1, read .read-section .ensures .pages-few, loop .loop .inv .2 .room, fits .few-pages)
 
 add-j : tie.Need-add-j Inv-loop μ-loop
 add-j c =
-    let loop = c .before .before .before .before .before .before .before .before .before .before .before in
+    let loop = c .before .before .before .before .before .before .before .before .before .before .before .before in
     let ok = loop .before .before .read-process .ok in
     omega (arith, loop .loop-test .taken)
 
@@ -75,14 +81,16 @@ loop-less c = search needs
 loop-again : tie.Need-loop-again Inv-loop μ-loop
 loop-again c =
     let call = c .before .before .before in
-    let read = call .before .before .before .before .before .before .before in
+    let marks = call .before .before .before .before in
+    let read = marks .before .before .before .before in
     let loop = read .before .before in
     let process = loop .before .read-process .ensures in
-    let pre = loop .before .before .before .before .pre in (
+    let pre = loop .before .before .before .before .before .pre in (
       omega arith,
       omega arith,
-      mapped-more (loop .loop .inv .2) (pre .0) (pre .1) (process .first-section) (process .sections-of) (read .before .loop-test .taken)
-          (read .read-section .ensures) (call .before .section-rights .ensures) (page-inside _ _ _ (call .before .before .page-at .ensures) (pre .0 .end)) (call .map-pages .ensures),
+      mapped-more (loop .loop .inv .2) (pre .0) (pre .1) (pre .2) (process .first-section) (process .sections-of) (read .before .loop-test .taken)
+          (read .read-section .ensures) (call .before .section-rights .ensures) (marks .is-marked .ensures) (call .before .before .first-page .ensures)
+          (c .pages-taken .ensures .0) (call .map-pages .ensures),
     )
 
 same-length-2 : tie.Need-same-length-2 Inv-loop μ-loop
@@ -99,15 +107,17 @@ map-sections-spec =
     μ-loop
     read-process-requires
     loop-holds
-    cast-read-section
-    cast-read-section-2
-    add-read-section
+    cast-n
+    cast-n-2
+    add-n
     read-section-requires
     same-length
     returns
-    page-at-requires
+    is-marked-requires
+    first-page-requires
     section-rights-requires
     map-pages-requires
+    pages-taken-requires
     add-place
     add-j
     loop-less

@@ -24,7 +24,7 @@ part-page-start c = search needs
 
 part-page-end : tie.Need-part-page-end
 part-page-end c =
-    let pre = c .before .before .before .before .pre in
+    let pre = c .before .before .before .before .before .pre in
     omega (arith, list-fits (pre .0) (pre .1) (c .before .allocate .ensures .0) (pre .2))
 
 sub-list-processes : tie.Need-sub-list-processes
@@ -35,7 +35,7 @@ add-list-processes c = search needs
 
 list-processes-requires : tie.Need-list-processes-requires
 list-processes-requires c κs =
-    let pre = c .before .before .before .before .before .before .before .pre in
+    let pre = c .before .before .before .before .before .before .before .before .pre in
     (pre .0, first-root (pre .0) (pre .1), page-long _ _ (list-fits (pre .0) (pre .1) (c .before .before .before .before .allocate .ensures .0) (pre .2)))
 
 same-length : tie.Need-same-length
@@ -43,7 +43,7 @@ same-length c = search needs
 
 returns : tie.Need-returns
 returns c =
-    let pre = c .before .before .before .before .before .before .before .before .before .before .before .pre in
+    let pre = c .before .before .before .before .before .before .before .before .before .before .before .before .pre in
     let page = c .before .before .before .before .before .before .before .before .allocate .ensures in
     (page .1, list-page _ _ _ _ _ _ (list-fits (pre .0) (pre .1) (page .0) (pre .2)) (page .0) (c .before .before .before .list-processes .ensures))
 

@@ -15,14 +15,14 @@ physical-requires c κs = search needs
 load-root-requires : tie.Need-load-root-requires
 load-root-requires c κs =
     let leaf = c .before .before in
-    let pre = leaf .before .before .before .before .pre in
-    let at = leaves-at _ _ _ _ _ (pre .0) (pre .1 .low) (pre .1 .high) (pre .3) (pre .4) (leaf .before .allocate .ensures .1) (leaf .allocate2 .ensures .0) (c .before .physical .ensures) in
-    (pre .1, pre .2, at)
+    let pre = leaf .before .before .before .before .before .pre in
+    let at = leaves-at _ _ _ _ _ _ (pre .0) (pre .2 .low) (pre .2 .high) (pre .4) (pre .5) (leaf .before .allocate .ensures .1) (leaf .allocate2 .ensures .0) (c .before .physical .ensures) in
+    (pre .2, pre .3, at)
 
 load-leaves-requires : tie.Need-load-leaves-requires
 load-leaves-requires c κs =
-    let pre = c .before .before .before .before .before .before .before .before .before .before .pre in
-    (pre .0, pre .1, pre .2)
+    let pre = c .before .before .before .before .before .before .before .before .before .before .before .pre in
+    (pre .0, pre .1, pre .2, pre .3)
 
 same-length : tie.Need-same-length
 same-length c = search needs
@@ -31,7 +31,7 @@ returns : tie.Need-returns
 returns c =
     let root = c .before .before .before .before .before .before in
     let got = root .before .before .before .before .allocate .ensures in
-    process-tables _ _ _ _ _ _ _ (got .0) (got .1) (root .load-root .ensures) (c .before .before .load-leaves .ensures)
+    process-tables _ _ _ _ _ _ _ _ _ (got .0) (got .1) (root .load-root .ensures) (c .before .before .load-leaves .ensures)
 
 pub load-process-tables-spec : {M : Type 1} → statement M
 load-process-tables-spec =

@@ -8,7 +8,7 @@ slice-aggregate-point-to-leaves c = search needs
 
 point-to-leaves-requires : tie.Need-point-to-leaves-requires
 point-to-leaves-requires c κs =
-    let pre = c .before .before .before .pre in
+    let pre = c .before .before .before .before .pre in
     (pre .0, pre .1, blank)
 
 slice-aggregate-point-to-leaf : tie.Need-slice-aggregate-point-to-leaf
@@ -30,7 +30,7 @@ returns : tie.Need-returns
 returns c =
     let mapped = c .before .before .before .before .before .before in
     let pointed = mapped .before .before .before in
-    root-page _ _ _ _ _ _ _ _ _ (pointed .before .before .before .before .pre .2) (pointed .point-to-leaves .ensures) (mapped .point-to-leaf .ensures)
+    root-page _ _ _ _ _ _ _ _ _ _ (pointed .before .before .before .before .before .pre .2) (pointed .point-to-leaves .ensures) (mapped .point-to-leaf .ensures)
     (c .before .before .store .ensures)
 
 pub load-root-spec : {M : Type 1} → statement M

@@ -5,6 +5,7 @@ use Rattle.rules.specs.Order.{tableUses}
 use Rattle.order_laws.specs.Places.{sectionPlace}
 use Rattle.order_places.proofs.Capped.{uncapped}
 use Rattle.writing.specs.Loaded.{WroteAny, any-gather-none, any-gather-next}
+use Rattle.xip_sections.specs.Marks.{marked}
 use Rattle.loader.proofs.LeafEntries.{walkable}
 use Rattle.loader.proofs.TablePages.{kernel-at, next-place, tables-all}
 use native.Mathlib.Omega.{arith}
@@ -13,11 +14,11 @@ use Rattle.loader.proofs.table_pages.load_tables.Statement.{statement}
 use Rattle.loader.proofs.table_pages.load_tables.Tie as tie
 
 abbrev Inv-loop : tie.InvT-loop
-Inv-loop ram₀ block range kernel-leaf count next₀ place₀ i₀ ram next place i =
-    (i ≤ count) × (place ≡ sectionPlace block (i + 1)) × WroteAny block range (gather i (λ i. tableUses block (i + 1))) ram₀ (next₀ .left) ram (next .left)
+Inv-loop ram₀ block xip flash-start range kernel-leaf count next₀ place₀ i₀ ram next place i =
+    (i ≤ count) × (place ≡ sectionPlace block (marked xip) (i + 1)) × WroteAny block (marked xip) flash-start range (gather i (λ i. tableUses block (i + 1))) ram₀ (next₀ .left) ram (next .left)
 
 abbrev μ-loop : tie.MeasureT-loop
-μ-loop ram₀ block range kernel-leaf count next₀ place₀ i₀ ram next place i = count - i
+μ-loop ram₀ block xip flash-start range kernel-leaf count next₀ place₀ i₀ ram next place i = count - i
 
 allocate-requires : tie.Need-allocate-requires Inv-loop μ-loop
 allocate-requires c κs = search needs
@@ -36,7 +37,7 @@ section-place-requires c κs = search needs
 
 loop-holds : tie.Need-loop-holds Inv-loop μ-loop
 loop-holds c =
-    let fits = c .before .before .before .before .before .before .before .pre .0 in
+    let fits = c .before .before .before .before .before .before .before .before .pre .0 in
     let place = uncapped _ _ (c .section-place .ensures) (omega (arith, walkable fits 1 (omega arith) (fits .some-process) .room)) in
     (search needs, place, any-gather-none _ _ _)
 
@@ -48,12 +49,13 @@ load-process-tables-requires c κs =
     let loop = c .before .before in
     let count = loop .before .before in
     let leaf = count .before .before in
-    let pre = leaf .before .before .before .before .pre in (
+    let pre = leaf .before .before .before .before .before .pre in (
       pre .0,
+      pre .1,
       walkable (pre .0) _ (omega arith) (omega (arith, c .before .loop-test .taken, count .process-count .ensures)),
       loop .loop .inv .1,
-      kernel-at _ _ _ (pre .0) (pre .1) (leaf .before .allocate .ensures .1) (leaf .allocate2 .ensures .0) (count .before .physical .ensures),
-      next-place _ _ _ (pre .1) (loop .loop .inv .2),
+      kernel-at _ _ _ _ (pre .0) (pre .2) (leaf .before .allocate .ensures .1) (leaf .allocate2 .ensures .0) (count .before .physical .ensures),
+      next-place _ _ _ _ _ (pre .2) (loop .loop .inv .2),
     )
 
 add-next-section-place : tie.Need-add-next-section-place Inv-loop μ-loop
@@ -63,7 +65,7 @@ next-section-place-requires : tie.Need-next-section-place-requires Inv-loop μ-l
 next-section-place-requires c κs =
     let loop = c .before .before .before .before .before in
     let count = loop .before .before in
-    let fits = count .before .before .before .before .before .before .pre .0 in
+    let fits = count .before .before .before .before .before .before .before .pre .0 in
     (walkable fits _ (omega arith) (omega (arith, c .before .before .before .before .loop-test .taken, count .process-count .ensures)), loop .loop .inv .1)
 
 add-i : tie.Need-add-i Inv-loop μ-loop
@@ -82,7 +84,7 @@ same-length : tie.Need-same-length Inv-loop μ-loop
 same-length c = search needs
 
 returns : tie.Need-returns Inv-loop μ-loop
-returns c = tables-all _ _ _ (omega (arith, c .before .before .before .process-count .ensures)) (c .before .loop .inv .2)
+returns c = tables-all _ _ _ _ _ (omega (arith, c .before .before .before .process-count .ensures)) (c .before .loop .inv .2)
 
 pub load-tables-spec : {M : Type 1} → statement M
 load-tables-spec =

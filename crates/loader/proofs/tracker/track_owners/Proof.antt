@@ -1,5 +1,6 @@
 use mathlib.Core.Path.{_≡_, refl}
 use Prim.Native.Nat.{_-_, _≤_}
+use Rattle.xip_sections.specs.Marks.{marked}
 use Rattle.order_laws.specs.Places.{userPages, user-pages-none}
 use Rattle.stores.proofs.Written.{Written, written-none}
 use Rattle.loader.proofs.TrackerBytes.{trackerByte, users-fit, user-fits, track-turn, track-end}
@@ -9,10 +10,10 @@ use Rattle.loader.proofs.tracker.track_owners.Statement.{statement}
 use Rattle.loader.proofs.tracker.track_owners.Tie as tie
 
 abbrev Inv-loop : tie.InvT-loop
-Inv-loop page₀ block needed pages users end₀ i₀ page end i = (i ≤ users) × (end ≡ pages - 4 - userPages block i) × Written (trackerByte block pages) end (pages - 4) page₀ page
+Inv-loop page₀ block xip needed pages users end₀ i₀ page end i = (i ≤ users) × (end ≡ pages - 4 - userPages block (marked xip) i) × Written (trackerByte block (marked xip) pages) end (pages - 4) page₀ page
 
 abbrev μ-loop : tie.MeasureT-loop
-μ-loop page₀ block needed pages users end₀ i₀ page end i = users - i
+μ-loop page₀ block xip needed pages users end₀ i₀ page end i = users - i
 
 clear-requires : tie.Need-clear-requires Inv-loop μ-loop
 clear-requires c κs = search needs
@@ -37,11 +38,13 @@ sub-users c = search needs
 
 sub-end : tie.Need-sub-end Inv-loop μ-loop
 sub-end c =
-    let start = c .before .before .before .before .before .before .before .before .before .before .before in
+    let start = c .before .before .before .before .before .before .before .before .before .before .before .before in
     omega (arith, users-fit 0 (start .pre .0) (start .pre .1) (omega arith), start .pre .0 .enough)
 
 loop-holds : tie.Need-loop-holds Inv-loop μ-loop
-loop-holds c = (search needs, omega (arith, user-pages-none (c .before .before .before .before .before .before .before .before .before .before .before .args .block .now)), written-none _ _ _ _ refl)
+loop-holds c =
+    let args = c .before .before .before .before .before .before .before .before .before .before .before .before .args in
+    (search needs, omega (arith, user-pages-none (args .block .now) (marked (args .xip .now))), written-none _ _ _ _ refl)
 
 add-process-pages : tie.Need-add-process-pages Inv-loop μ-loop
 add-process-pages c = search needs
@@ -51,12 +54,12 @@ process-pages-requires c κs = search needs
 
 cast-start : tie.Need-cast-start Inv-loop μ-loop
 cast-start c =
-    let start = c .before .before .before .before .before .before .before .before .before .before .before .before .before .before in
+    let start = c .before .before .before .before .before .before .before .before .before .before .before .before .before .before .before in
     omega (arith, user-fits _ (start .pre .0) (start .pre .1) (omega (arith, c .before .before .before .process-count .ensures)) (c .process-pages .ensures .0), start .pre .0 .few-pages)
 
 sub-start : tie.Need-sub-start Inv-loop μ-loop
 sub-start c =
-    let start = c .before .before .before .before .before .before .before .before .before .before .before .before .before .before in
+    let start = c .before .before .before .before .before .before .before .before .before .before .before .before .before .before .before in
     omega (arith, user-fits _ (start .pre .0) (start .pre .1) (omega (arith, c .before .before .before .process-count .ensures)) (c .process-pages .ensures .0))
 
 cast-fill-3 : tie.Need-cast-fill-3 Inv-loop μ-loop
@@ -83,7 +86,7 @@ loop-less c = search needs
 loop-again : tie.Need-loop-again Inv-loop μ-loop
 loop-again c =
     let loop = c .before .before .before .before .before .before in
-    let start = loop .before .before .before .before .before .before .before .before .before .before .before .before in
+    let start = loop .before .before .before .before .before .before .before .before .before .before .before .before .before in
     let turn = track-turn (start .pre .0) (start .pre .1) (omega (arith, loop .before .process-count .ensures)) (loop .loop .inv .1) (loop .loop .inv .2) (c .before .before .before .before .process-pages .ensures .0) refl (c .before .before .fill2 .ensures) in
     (omega arith, turn .0, turn .1)
 
@@ -94,7 +97,7 @@ returns : tie.Need-returns Inv-loop μ-loop
 returns c =
     let loop = c .before in
     let filled = loop .before .before .before .before in
-    track-end _ (filled .before .before .before .before .before .before .before .before .pre .0) (filled .before .before .before .before .before .before .before .before .pre .1) (filled .before .before .before .before .clear .ensures) (filled .fill .ensures) (loop .loop .inv .1) (omega (arith, loop .before .process-count .ensures)) (loop .loop .inv .2)
+    track-end _ (filled .before .before .before .before .before .before .before .before .before .pre .0) (filled .before .before .before .before .before .before .before .before .before .pre .1) (filled .before .before .before .before .clear .ensures) (filled .fill .ensures) (loop .loop .inv .1) (omega (arith, loop .before .process-count .ensures)) (loop .loop .inv .2)
 
 pub track-owners-spec : {M : Type 1} → statement M
 track-owners-spec =
