@@ -5,7 +5,7 @@ use mathlib.Core.Path.{_≡_, refl, sym, ap, _∙_}
 use mathlib.Core.Logic.{_≢_, _⊎_, inl, inr}
 use mathlib.Core.List.{List}
 use mathlib.Core.Bool.{Bool, true, false, _&&_}
-use Prim.Native.Nat.{ℕ, _+_, _-_, _*_, _/_, _≤_, _<_}
+use Prim.Native.Nat.{ℕ, _+_, _-_, _*_, _/_, _%_, _≤_, _<_}
 use native.Mathlib.Omega.{arith}
 use lib.ListN.{length, getD, take}
 use lib.Dec.{eqb, leb}
@@ -16,6 +16,7 @@ use Rattle.types.specs.declared.PageRange.{PageRange}
 use Rattle.types.specs.declared.PhysPage.{PhysPage}
 use Rattle.types.specs.declared.Rights.{Rights}
 use Rattle.types.specs.declared.Entry.the-variants.{Page}
+use Rattle.types.specs.declared.View.the-variants as S
 use Rattle.types.specs.declared.Answer.{Answer}
 use Rattle.rules.specs.Lent.{Image, Memory, memoryArea, pageArea, pagesIn, liesIn}
 use Rattle.rules.specs.Block.{processCount, sectionsOf, sectionRecord, ownerOf, address, size, flashOffset, noCopy, firstPage, lastPage, pageCount}
@@ -25,7 +26,7 @@ use Rattle.rules.specs.Contents.{tracker}
 use Rattle.rules.specs.Load.{physPage, flashPage, dataPage, pageByte, loaded, boots, ramAfter, after, bootAnswer, answerOn, answer}
 use Rattle.rules.specs.Reader.{walk}
 use Rattle.rules.specs.Sees.{sees, seesOn, sectionView, seenFrom, rootOf, processSees}
-use Rattle.rules.specs.InPlace.{xipOf}
+use Rattle.rules.specs.InPlace.{flashFrom, xipOf}
 use Rattle.laws.specs.Choice.{false-not-true, by-choose, and-both, choose-yes}
 use Rattle.laws.specs.Lists.{Occurs}
 use Rattle.order_laws.specs.Uses.{InRam, in-ram, one-use, use-free, use-top}
@@ -33,11 +34,11 @@ use Rattle.order_laws.specs.Places.{trackerPlace, place-tracker, ram-page-at}
 use Rattle.accepted.specs.NoCause.{NoCause, booted}
 use Rattle.accepted.specs.Fits.{Whole, Fits, whole, fits}
 use Rattle.accepted.specs.Sections.{owner-is, section-in-space, section-in-flash}
-use Rattle.accepted.specs.InPlace.{InPlace, in-place, in-flash}
+use Rattle.accepted.specs.InPlace.{InPlace, in-place, flash-start, InFlash, in-flash}
 use Rattle.accepted.specs.Tracker.{tracker-pages, tracker-byte}
 use Rattle.accepted.specs.Counting.{owners-sum, tracker-count-owner, tracker-count-free}
 use Rattle.demands.specs.Mappings.{Flashed, Copied, Stored, copied-page, flashed-page, AtHome, at-home, homeOf, SectionRights, Own, own}
-use Rattle.demands.specs.Walk.{answerFor, walk-answers, sees-rules}
+use Rattle.demands.specs.Walk.{answerFor, walk-answers, shown-page, flash-bytes, sees-rules}
 use Rattle.demands.specs.Loaded.{loaded-length, loaded-byte, loaded-use, after-boot, after-length, flashed}
 use Rattle.demands.specs.Exactly.{Exactly, exactly, section-page, tracker-two, tracker-page}
 
@@ -209,19 +210,27 @@ module _ (x : Image) (r : Memory) (boot : boots x r ≡ true) where
       let small : address b (sectionRecord b q j) + k < 0x1_0000_0000 = section-in-space x (memoryArea r) ok q j lo hi hj k hk in
       (small, sees-exactly q _ lo hi small .section q j k (inl refl) hj hk refl, section-in-flash x (memoryArea r) ok q j lo hi hj k hk)
 
-  -- 02, A6: the entries of a section that is used in place name the flash pages that hold its bytes: its page i the i-th of them
+  -- 02, A6: the entries of a section that is used in place name the flash pages that hold its bytes, its page i the i-th of them; and the
+  -- byte that is seen there is flash's own
   pub section-in-place : (q j i a : ℕ) → 1 ≤ q → q ≤ processCount b → j < sectionsOf b q → xip (sectionRecord b q j) ≡ true
       → i < pageCount b (sectionRecord b q j) → a / 4096 ≡ firstPage b (sectionRecord b q j) + i → a < 0x1_0000_0000
-      → walk (after x r) (rootOf x r q) a
-      ≡ Page (sectionRights b q (sectionRecord b q j)) (record { 0 = flashPage b (x .flash .start / 4096) (sectionRecord b q j) i })
-  unfolding sectionMapping answerFor hasPage pageCount
+      → (walk (after x r) (rootOf x r q) a
+      ≡ Page (sectionRights b q (sectionRecord b q j)) (record { 0 = flashPage b (x .flash .start / 4096) (sectionRecord b q j) i }))
+      × (processSees x r q a
+      ≡ S.Page (sectionRights b q (sectionRecord b q j)) (getD (x .flash .bytes) (flashFrom b (sectionRecord b q j) + 4096 * i + a % 4096) 0))
+  unfolding sectionMapping answerFor hasPage pageCount processSees seenFrom flashPage flashFrom
   section-in-place q j i a lo hi hj e hi′ v h =
       let n : ℕ = sectionRecord b q j in
+      let P : ℕ = flashPage b (x .flash .start / 4096) n i in
       let here : (leb (firstPage b n) (a / 4096) && leb (a / 4096) (lastPage b n)) ≡ true
       = and-both (le-leb (firstPage b n) (a / 4096) (omega arith)) (le-leb (a / 4096) (lastPage b n) (omega arith)) in
       let d : a / 4096 - firstPage b n ≡ i = omega arith in
-      walked q a lo hi h
-      ∙ rw (section-page x (memoryArea r) ok (trackerPages b (ram .pages)) q q j (a / 4096) lo hi (inl refl) hj here, d, flashed-page b xip (x .flash .start / 4096) ram q j i e)
+      let w : walk (after x r) (rootOf x r q) a ≡ Page (sectionRights b q n) (record { 0 = P })
+      = walked q a lo hi h
+      ∙ rw (section-page x (memoryArea r) ok (trackerPages b (ram .pages)) q q j (a / 4096) lo hi (inl refl) hj here, d, flashed-page b xip (x .flash .start / 4096) ram q j i e) in
+      let f : InFlash x (memoryArea r) n i = in-flash x (memoryArea r) ok q j i lo hi hj e hi′ in
+      let at : 4096 * P - x .flash .start + a % 4096 ≡ flashFrom b n + 4096 * i + a % 4096 = omega (arith, flash-start x (memoryArea r) ok) in
+      (w, rw w (shown-page (after x r) (x .flash) a P (sectionRights b q n) _ (flash-bytes (after x r) (x .flash) P (rw same-area (f .not-ram)) (f .inside)) ∙ rw at))
 
   -- the tracker's lower part is in the higher RAM page: page i is i RAM pages below the first, in every process
   pub tracker-pages-descend : (q i : ℕ) → 1 ≤ q → q ≤ processCount b → i < trackerPages b (ram .pages)

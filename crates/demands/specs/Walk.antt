@@ -3,7 +3,7 @@ use mathlib.Core.Path.{_≡_, refl, sym, ap, _∙_}
 use mathlib.Core.List.{List}
 use mathlib.Core.Logic.{inl, inr}
 use mathlib.Core.Option.{some}
-use mathlib.Core.Bool.{Bool, true}
+use mathlib.Core.Bool.{Bool, true, false}
 use Prim.Native.Nat.{ℕ, suc, _+_, _-_, _*_, _/_, _%_, _≤_, _<_}
 use native.Mathlib.Nat.{div-div-eq-div-mul}
 use native.Mathlib.Omega.{arith}
@@ -97,11 +97,17 @@ byte-at x track satp a processList h = let e : a % 4096 ≡ a - 0xFFF8_0000 = om
 byte-at x track satp a blockCopy h = let e : a % 4096 ≡ a - 0xFFF0_0000 = omega arith in rw e
 
 -- WHAT IS SHOWN at a page that has the bytes f 0, f 1, ..
-shown-page : (ram flash : Memory) (a P : ℕ) (t : Rights) (f : ℕ → ℕ) → pageBytes ram flash P ≡ tab 4096 f
+pub shown-page : (ram flash : Memory) (a P : ℕ) (t : Rights) (f : ℕ → ℕ) → pageBytes ram flash P ≡ tab 4096 f
     → shown ram flash a (Page t (record { 0 = P })) ≡ S.Page t (f (a % 4096))
 unfolding shown
 shown-page ram flash a P t f e =
     rw (e, tab-length 4096 f) (choose-no _ _ (ne-eqb 4096 0 (λ z. omega arith)) ∙ ap (S.Page t) (tab-get 4096 f (a % 4096) 0 (omega arith)))
+
+-- a page of flash that is none of RAM has flash's own bytes
+pub flash-bytes : (ram flash : Memory) (P : ℕ) → liesIn (pageArea P) (memoryArea ram) ≡ false → liesIn (pageArea P) (memoryArea flash) ≡ true
+    → pageBytes ram flash P ≡ tab 4096 (λ k. getD (flash .bytes) (4096 * P - flash .start + k) 0)
+unfolding pageBytes pageIn
+flash-bytes ram flash P not-ram inside = choose-no _ _ not-ram ∙ choose-yes _ _ inside
 
 -- RAM with these pages, in which the page of each use has the use's bytes, and flash with the pages of sections that are used in place
 module _ (x : Image) (ram : PageRange) (fits : Fits (x .block) (xipOf x) ram) (before bytes : List ℕ) (len : length bytes ≡ 4096 * ram .pages)
@@ -262,9 +268,8 @@ module _ (x : Image) (ram : PageRange) (fits : Fits (x .block) (xipOf x) ram) (b
   flashed-bytes : (q j i : ℕ) → Flashed b xip (sectionPage q j i)
       → pageBytes r (x .flash) (page (sectionPage q j i))
       ≡ tab 4096 (λ k. getD (x .flash .bytes) (4096 * flashPage b (x .flash .start / 4096) (sectionRecord b q j) i - x .flash .start + k) 0)
-  unfolding pageBytes pageIn
   flashed-bytes q j i f =
-      rw (flashed-page b xip (x .flash .start / 4096) ram q j i (f .3)) (choose-no _ _ (flashed q j i f .not-ram) ∙ choose-yes _ _ (flashed q j i f .inside))
+      rw (flashed-page b xip (x .flash .start / 4096) ram q j i (f .3)) (flash-bytes r (x .flash) _ (flashed q j i f .not-ram) (flashed q j i f .inside))
 
   -- what is shown at the answered page
   shown-data : (a : ℕ) (d : Data) (t : Rights) → Stored b xip (trackerPages b N) d → homeOf b d ≡ a / 4096
