@@ -14,4 +14,5 @@ pub mod Compare
 pub mod Writer
 pub mod Examples
 pub mod SmallBoard
+pub mod InPlaceExamples
 pub mod WriterExamples
