@@ -16,6 +16,7 @@ use Rattle.types.specs.declared.PageRange.{PageRange}
 use Rattle.types.specs.declared.PhysPage.{PhysPage}
 use Rattle.types.specs.declared.Rights.{Rights}
 use Rattle.types.specs.declared.Entry.the-variants.{Page}
+use Rattle.types.specs.declared.View.{View}
 use Rattle.types.specs.declared.View.the-variants as S
 use Rattle.types.specs.declared.Answer.{Answer}
 use Rattle.rules.specs.Lent.{Image, Memory, memoryArea, pageArea, pagesIn, liesIn}
@@ -65,6 +66,13 @@ abbrev pub InRamOrFlash : Image → Memory → Rights → PhysPage → Type 0
 InRamOrFlash x end t P =
     (liesIn (pageArea (P .0)) (memoryArea end) ≡ true)
     ⊎ ((liesIn (pageArea (P .0)) (memoryArea (x .flash)) ≡ true) × (t .write ≡ false) × (t .user ≡ true))
+
+-- where address a is on page i of a section of process q that is used in place, v has the byte at that place of the section's i-th flash page
+abbrev pub FlashByte : Image → ℕ → ℕ → View → Type 0
+FlashByte x q a v =
+    (j i : ℕ) → let n = sectionRecord (x .block) q j in j < sectionsOf (x .block) q → xipOf x n ≡ true → i < pageCount (x .block) n
+    → a / 4096 ≡ firstPage (x .block) n + i
+    → v ≡ S.Page (sectionRights (x .block) q n) (getD (x .flash .bytes) (flashFrom (x .block) n + 4096 * i + a % 4096) 0)
 
 -- owners' pages, counted by the order of pages, and free pages add up to RAM's N pages; they are the answer's counts, the four pages at
 -- the top among those taken; and the tracker's bytes for RAM's pages count the same, owner by owner
@@ -210,27 +218,30 @@ module _ (x : Image) (r : Memory) (boot : boots x r ≡ true) where
       let small : address b (sectionRecord b q j) + k < 0x1_0000_0000 = section-in-space x (memoryArea r) ok q j lo hi hj k hk in
       (small, sees-exactly q _ lo hi small .section q j k (inl refl) hj hk refl, section-in-flash x (memoryArea r) ok q j lo hi hj k hk)
 
-  -- 02, A6: the entries of a section that is used in place name the flash pages that hold its bytes, its page i the i-th of them; and the
-  -- byte that is seen there is flash's own
+  -- 02, A6: the entries of a section that is used in place name the flash pages that hold its bytes: its page i the i-th of them
   pub section-in-place : (q j i a : ℕ) → 1 ≤ q → q ≤ processCount b → j < sectionsOf b q → xip (sectionRecord b q j) ≡ true
       → i < pageCount b (sectionRecord b q j) → a / 4096 ≡ firstPage b (sectionRecord b q j) + i → a < 0x1_0000_0000
-      → (walk (after x r) (rootOf x r q) a
-      ≡ Page (sectionRights b q (sectionRecord b q j)) (record { 0 = flashPage b (x .flash .start / 4096) (sectionRecord b q j) i }))
-      × (processSees x r q a
-      ≡ S.Page (sectionRights b q (sectionRecord b q j)) (getD (x .flash .bytes) (flashFrom b (sectionRecord b q j) + 4096 * i + a % 4096) 0))
-  unfolding sectionMapping answerFor hasPage pageCount processSees seenFrom flashPage flashFrom
+      → walk (after x r) (rootOf x r q) a
+      ≡ Page (sectionRights b q (sectionRecord b q j)) (record { 0 = flashPage b (x .flash .start / 4096) (sectionRecord b q j) i })
+  unfolding sectionMapping answerFor hasPage pageCount
   section-in-place q j i a lo hi hj e hi′ v h =
       let n : ℕ = sectionRecord b q j in
-      let P : ℕ = flashPage b (x .flash .start / 4096) n i in
       let here : (leb (firstPage b n) (a / 4096) && leb (a / 4096) (lastPage b n)) ≡ true
       = and-both (le-leb (firstPage b n) (a / 4096) (omega arith)) (le-leb (a / 4096) (lastPage b n) (omega arith)) in
       let d : a / 4096 - firstPage b n ≡ i = omega arith in
-      let w : walk (after x r) (rootOf x r q) a ≡ Page (sectionRights b q n) (record { 0 = P })
-      = walked q a lo hi h
-      ∙ rw (section-page x (memoryArea r) ok (trackerPages b (ram .pages)) q q j (a / 4096) lo hi (inl refl) hj here, d, flashed-page b xip (x .flash .start / 4096) ram q j i e) in
+      walked q a lo hi h
+      ∙ rw (section-page x (memoryArea r) ok (trackerPages b (ram .pages)) q q j (a / 4096) lo hi (inl refl) hj here, d, flashed-page b xip (x .flash .start / 4096) ram q j i e)
+
+  -- and the byte that its process sees there is flash's own
+  pub flash-byte-seen : (q a : ℕ) → 1 ≤ q → q ≤ processCount b → a < 0x1_0000_0000 → FlashByte x q a (processSees x r q a)
+  unfolding processSees seenFrom flashPage flashFrom
+  flash-byte-seen q a lo hi h j i hj e hi′ v =
+      let n : ℕ = sectionRecord b q j in
+      let P : ℕ = flashPage b (x .flash .start / 4096) n i in
       let f : InFlash x (memoryArea r) n i = in-flash x (memoryArea r) ok q j i lo hi hj e hi′ in
       let at : 4096 * P - x .flash .start + a % 4096 ≡ flashFrom b n + 4096 * i + a % 4096 = omega (arith, flash-start x (memoryArea r) ok) in
-      (w, rw w (shown-page (after x r) (x .flash) a P (sectionRights b q n) _ (flash-bytes (after x r) (x .flash) P (rw same-area (f .not-ram)) (f .inside)) ∙ rw at))
+      rw (section-in-place q j i a lo hi hj e hi′ v h)
+      (shown-page (after x r) (x .flash) a P (sectionRights b q n) _ (flash-bytes (after x r) (x .flash) P (rw same-area (f .not-ram)) (f .inside)) ∙ rw at)
 
   -- the tracker's lower part is in the higher RAM page: page i is i RAM pages below the first, in every process
   pub tracker-pages-descend : (q i : ℕ) → 1 ≤ q → q ≤ processCount b → i < trackerPages b (ram .pages)
