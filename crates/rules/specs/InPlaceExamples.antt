@@ -12,7 +12,6 @@ use Rattle.notation.specs.Words.{bytesOf, words}
 use Rattle.types.specs.declared.Area.{Area}
 use Rattle.types.specs.declared.Entry.{Entry}
 use Rattle.types.specs.declared.Entry.the-variants.{Absent, Reserved, Page}
-use Rattle.types.specs.declared.Answer.{Answer}
 use Rattle.rules.specs.Lent.{Memory, memoryOf, imageOf, areaOf, area-rules}
 use Rattle.rules.specs.Block.{block-rules}
 use Rattle.rules.specs.Space.{Data, kernelRead, space-rules}
