@@ -88,7 +88,7 @@ module _ (x : Image) (ram : Area) (ok : NoCause x ram) where
     unfolding sectionRecord
     record-is = rw (first-is q lo hi)
 
-    record-in : sectionRecord b q j < sectionCount b
+    pub record-in : sectionRecord b q j < sectionCount b
     record-in = omega (arith, record-is, sum-fits q lo hi, sections-up-to b q lo)
 
     -- no other process has this record

@@ -178,7 +178,7 @@ module _ (x : Image) (r : Memory) (boot : boots x r ≡ true) where
   unfolding sectionRights
   flashed-in-flash q j i f =
       let n : ℕ = sectionRecord b q j in
-      let p : InPlace b (x .flash .bytes) n = in-place b (x .flash .bytes) n (f .3) in
+      let p : InPlace b (x .flash .bytes) (ownerOf b n) n = in-place b (x .flash .bytes) n (f .3) in
       let o : ownerOf b n ≡ q = owner-is x (memoryArea r) ok q j (f .0) (f .1) (f .2) in (
         rw (flashed-page b xip (x .flash .start / 4096) ram q j i (f .3)) (in-flash x (memoryArea r) ok q j i (f .0) (f .1) (f .2) (f .3) (f .4) .inside),
         p .read-only,

@@ -13,7 +13,7 @@ use lib.ListN.{length, getD, take}
 use lib.Seq.{ext-getD, getD-append-add}
 use Rattle.notation.specs.Choice.{choose}
 use Rattle.notation.specs.Lists.{tab, gather, lookup, countBefore, someOf, findLast, exists}
-use Rattle.laws.specs.Choice.{by-choose}
+use Rattle.laws.specs.Choice.{by-choose, choose-no}
 
 -- none is not some
 pub none-some : {A : Type 0} {x : A} {B : Type 0} → none ≡ some x → B
@@ -303,6 +303,11 @@ unfolding exists
 exists-hit t zero j e h = absurd (not-suc-le-zero h)
 exists-hit t (suc n) j e h = by-choose (λ c. c ≡ true) (t n) true (exists t n) (λ _. refl)
     (λ f. elim (ℕ-discrete j n) [ yes z ↦ cc | no z ↦ exists-hit t n j e (omega arith) ])
+
+pub exists-miss : (t : ℕ → Bool) (n : ℕ) → ((j : ℕ) → j < n → t j ≡ false) → exists t n ≡ false
+unfolding exists
+exists-miss t zero h = refl
+exists-miss t (suc n) h = choose-no _ _ (h n (omega arith)) ∙ exists-miss t n (λ j l. h j (omega arith))
 
 -- SOME-OF
 either-order : (a b c : Bool) → choose a true (choose b true c) ≡ choose b true (choose a true c)

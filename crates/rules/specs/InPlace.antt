@@ -9,8 +9,8 @@ use Rattle.notation.specs.Lists.{exists}
 use Rattle.rules.specs.Lent.{Image}
 use Rattle.rules.specs.Block.{sectionCount, kind, ownerOf, address, size, flashOffset, noCopy, writable}
 
--- the flash pages of section record n are those of the image, counted from its start, that hold a byte of it: where the first of them
--- starts, and where the last ends
+-- the flash pages of section record n are those of the image, counted from its start, that hold a byte of it, as 7 leaves it one
+-- (`in-place-exactly` in accepted/InPlace): where the first of them starts, and where the last ends
 unfoldable pub flashFrom : List ℕ → ℕ → ℕ
 flashFrom b n = 4096 * (flashOffset b n / 4096)
 
