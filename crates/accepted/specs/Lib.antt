@@ -5,5 +5,6 @@ pub mod NoCause
 pub mod InPlace
 pub mod Fits
 pub mod Sections
+pub mod Stacks
 pub mod Tracker
 pub mod Counting

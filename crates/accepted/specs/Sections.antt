@@ -72,14 +72,14 @@ module _ (x : Image) (ram : Area) (ok : NoCause x ram) where
   first-is : (q : ℕ) → 1 ≤ q → q ≤ processCount b → firstSection b q ≡ sectionsBefore b (q - 1)
   unfolding processUnfit recordUnfit processRecord
   first-is q lo hi =
-      let f : firstSection b (q - 1 + 1) ≡ sectionsBefore b (q - 1) = eqb-true _ _ (not-false _ (any-none _ (ok .process-fit (q - 1) (omega arith)) 3)) in
+      let f : firstSection b (q - 1 + 1) ≡ sectionsBefore b (q - 1) = eqb-true _ _ (not-false _ (any-none _ (ok .process-fit (q - 1) (omega arith)) 2)) in
       let e : q - 1 + 1 ≡ q = omega arith in
       rw e at f
 
   sum-fits : (q : ℕ) → 1 ≤ q → q ≤ processCount b → sectionsBefore b q ≤ sectionCount b
   unfolding processUnfit recordUnfit processRecord
   sum-fits q lo hi =
-      let f : sectionsBefore b (q - 1) + sectionsOf b (q - 1 + 1) ≤ sectionCount b = ltb-false _ _ (any-none _ (ok .process-fit (q - 1) (omega arith)) 4) in
+      let f : sectionsBefore b (q - 1) + sectionsOf b (q - 1 + 1) ≤ sectionCount b = ltb-false _ _ (any-none _ (ok .process-fit (q - 1) (omega arith)) 3) in
       let e : q - 1 + 1 ≡ q = omega arith in
       rw (sections-up-to b q lo) (rw e at f)
 
@@ -168,7 +168,7 @@ module _ (x : Image) (ram : Area) (ok : NoCause x ram) where
       let i : ℕ = processCount b - 1 in
       let e : i + 1 ≡ processCount b = omega arith in
       let n : ℕ = sectionsBefore b i + sectionsOf b (i + 1) in
-      let f : (eqb (i + 1) (processCount b) && not (eqb n (sectionCount b))) ≡ false = any-none _ (ok .process-fit i (omega arith)) 5 in
+      let f : (eqb (i + 1) (processCount b) && not (eqb n (sectionCount b))) ≡ false = any-none _ (ok .process-fit i (omega arith)) 4 in
       rw e at (sections-before-next b i ∙ eqb-true n (sectionCount b) (not-false _ (and-rest (eq-eqb (i + 1) (processCount b) e) f)))
 
   pub section-owner : (n : ℕ) → 1 ≤ processCount b → n < sectionCount b

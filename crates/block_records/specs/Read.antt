@@ -3,7 +3,7 @@ use mathlib.Core.Path.{_≡_}
 use mathlib.Core.List.{List}
 use Prim.Native.Nat.{ℕ, _≤_}
 use Rattle.types.specs.declared.Process.{Process}
-use Rattle.rules.specs.Block.{entryPoint, firstSection, sectionsOf, kind}
+use Rattle.rules.specs.Block.{entryPoint, firstSection, sectionsOf, kindWord}
 use Rattle.rules.specs.Block.{address, size, flashOffset, flags, noCopy, writable, executable, firstPage, lastPage, pageCount}
 use Rattle.rules.specs.Block.{regionStart, regionPages, regionArea}
 use Rattle.rules.specs.Lent.{endOf}
@@ -15,7 +15,7 @@ pub record IsProcess (b : List ℕ) (q : ℕ) (r : Process) : Type 0 where
   pub entry-point : r .«entry_point» ≡ entryPoint b q
   pub first-section : r .«first_section» ≡ firstSection b q
   pub sections-of : r .sections ≡ sectionsOf b q
-  pub kind-is : r .kind ≡ kind b q
+  pub kind-word : r .«kind_word» ≡ kindWord b q
 
 -- r is section record n, which has at most 0x200000 pages
 pub record IsSection (b : List ℕ) (n : ℕ) (r : Section) : Type 0 where

@@ -1,8 +1,8 @@
 // The boot block's records, read from any bytes: what lies past their end counts as 0.
 ghost use mathlib.Core.Path.{_≡_};
-ghost use Prim.Native.Nat.{ℕ, _+_, _≤_};
+ghost use Prim.Native.Nat.{ℕ, _+_};
 ghost use Rattle.notation.specs.Words.{word};
-ghost use Rattle.rules.specs.Block.{stackPages, sectionAt};
+ghost use Rattle.rules.specs.Block.{kindOf, stackBits, stackPages, sectionAt};
 ghost use Rattle.rules.specs.Contents.{stackPointer};
 ghost use Rattle.block_records.specs.Read.{IsProcess, IsSection, IsRegion};
 use types::Process;
@@ -38,7 +38,7 @@ pub fn read_process_record(block: &[u8], i: u32) -> Process
         entry_point: words.0,
         first_section: words.1,
         sections: words.2,
-        kind: words.3,
+        kind_word: words.3,
     }
 }
 
@@ -49,11 +49,30 @@ pub fn read_process(block: &[u8], q: u32) -> Process
     read_process_record(block, numbers::minus(q as usize, 1) as u32)
 }
 
-// The pages of process q's stack reservation; the kernel has none.
-pub fn stack_pages(block: &[u8], q: u32) -> u32
-    ensures { λ r. ⌜ (r ≡ stackPages (now (block .entry)) q) × (r ≤ 255) ⌝ }
+// The kind: bits 0 to 7 of a kind word.
+pub fn kind_of(kind_word: u32) -> u32
+    ensures { λ r. ⌜ r ≡ kindOf «kind_word» ⌝ }
 {
-    if q == 1 { 0 } else { 4 }
+    kind_word % 256
+}
+
+// Its bits 8 to 15, which are for the stack pages.
+pub fn stack_bits(kind_word: u32) -> u32
+    ensures { λ r. ⌜ r ≡ stackBits «kind_word» ⌝ }
+{
+    kind_word / 256 % 256
+}
+
+// The pages of process q's stack; the kernel has none.
+pub fn stack_pages(block: &[u8], q: u32) -> u32
+    ensures { λ r. ⌜ r ≡ stackPages (now (block .entry)) q ⌝ }
+{
+    if q == 1 {
+        return 0;
+    }
+    let process = read_process(block, q);
+    let pages = stack_bits(process.kind_word);
+    if pages == 0 { 16 } else { pages }
 }
 
 // The stack pointer that process q starts with; the kernel has 0.

@@ -11,7 +11,7 @@ use Rattle.laws.specs.Choice.{choose-yes}
 use Rattle.laws.specs.Counts.{sum-same}
 use Rattle.laws.specs.Lists.{every-of-get}
 use Rattle.types.specs.declared.Verdict.{Verdict}
-use Rattle.rules.specs.Block.{lengthFor, entryPoint, firstSection, sectionsOf, kind, processAt, processRecord}
+use Rattle.rules.specs.Block.{lengthFor, entryPoint, firstSection, sectionsOf, kindWord, processAt, processRecord}
 use Rattle.rules.specs.Refusals.{sectionsBefore, processCheck, refused, accepted, firstRefusal, processChecks}
 use Rattle.rules.specs.Writer.{Records, processesIn, sectionsIn, regionsIn, blockOf, listsUnfit, bufferTooShort, writerChecks, writerVerdict, written, bufferAfter}
 use Rattle.accepted.specs.InOrder.{scan-same}
@@ -22,7 +22,7 @@ use Rattle.block_writer.specs.Lists.{processIn, sectionsBeforeIn, checkI
 -- REFUSAL 6 of the list is that of the block to be written
 module _ (l : Records) (ok : Bounded l) (ws : WordLists l) where
   record-same : (i : ℕ) → i < processesIn l → processRecord (blockOf l) (i + 1) ≡ processIn (l .processes) i
-  unfolding processRecord processIn entryPoint firstSection sectionsOf kind processAt
+  unfolding processRecord processIn entryPoint firstSection sectionsOf kindWord processAt
   record-same i h = rw (
     process-word-read l ok ws (4 * i) (32 + 16 * (i + 1 - 1)) (omega arith) (omega arith),
     process-word-read l ok ws (4 * i + 1) (32 + 16 * (i + 1 - 1) + 4) (omega arith) (omega arith),

@@ -15,7 +15,7 @@ processIn ws i = record {
   «entry_point» = getD ws (4 * i) 0;
   «first_section» = getD ws (4 * i + 1) 0;
   sections = getD ws (4 * i + 2) 0;
-  kind = getD ws (4 * i + 3) 0;
+  «kind_word» = getD ws (4 * i + 3) 0;
 }
 
 -- the sum of the section counts of the first n process records

@@ -36,7 +36,7 @@ fn process_in(processes: &[u32], i: u32) -> Process
         entry_point: processes[at],
         first_section: processes[at + 1],
         sections: processes[at + 2],
-        kind: processes[at + 3],
+        kind_word: processes[at + 3],
     }
 }
 

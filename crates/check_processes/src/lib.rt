@@ -8,7 +8,7 @@ ghost use Prim.Native.Nat.{_+_, _*_, _≤_};
 ghost use lib.Dec.{leb, ltb};
 ghost use Rattle.notation.specs.Choice.{choose};
 ghost use Rattle.rules.specs.Block.{processAt, address, executable, sectionEnd};
-ghost use Rattle.rules.specs.Refusals.{sectionsBefore, recordUnfit, entryPointOutside, recordCheck, processRecordCheck, processCheck, entryPointCheck};
+ghost use Rattle.rules.specs.Refusals.{sectionsBefore, kindUnfit, recordUnfit, entryPointOutside, recordCheck, processRecordCheck, processCheck, entryPointCheck};
 
 // The sections of the first n process records.
 fn sections_before(block: &[u8], n: u32) -> u64
@@ -24,15 +24,28 @@ fn sections_before(block: &[u8], n: u32) -> u64
     sum
 }
 
+// Refusal 6, for the kind word of process record i. Record 0 is the kernel's.
+fn kind_unfit(kind_word: u32, i: u32) -> bool
+    ensures { λ r. ⌜ r ≡ kindUnfit «kind_word» i ⌝ }
+{
+    let kind = block_records::kind_of(kind_word);
+    if 1 < kind {
+        return true;
+    }
+    if both(i == 0, kind == 1) {
+        return true;
+    }
+    if 0xFFFF < kind_word {
+        return true;
+    }
+    both(i == 0, block_records::stack_bits(kind_word) != 0)
+}
+
 // Refusal 6, for a process record, number i of p: `before` is the sum of the section counts before it.
 fn record_unfit(process: Process, i: u32, p: u32, before: u64, s: u32) -> bool
     ensures { λ r. ⌜ r ≡ recordUnfit process i p before s ⌝ }
 {
-    if 1 < process.kind {
-        return true;
-    }
-    // Kind 1 is for user processes, and record 0 is the kernel's.
-    if both(process.kind == 1, i == 0) {
+    if kind_unfit(process.kind_word, i) {
         return true;
     }
     if process.sections == 0 {

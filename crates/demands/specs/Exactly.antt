@@ -18,7 +18,7 @@ use Rattle.types.specs.declared.PageRange.{PageRange}
 use Rattle.types.specs.declared.View.{View}
 use Rattle.types.specs.declared.View.the-variants as S
 use Rattle.rules.specs.Lent.{Image, pagesIn}
-use Rattle.rules.specs.Block.{stackPages, stackFirst, processCount, regionCount, sectionsOf, sectionRecord, address, size, sectionEnd, firstPage, lastPage, flashOffset, noCopy, regionPages, ioPagesOf, ioPages}
+use Rattle.rules.specs.Block.{stackFirst, processCount, regionCount, sectionsOf, sectionRecord, address, size, sectionEnd, firstPage, lastPage, flashOffset, noCopy, regionPages, ioPagesOf, ioPages}
 use Rattle.rules.specs.Refusals.{ramUnfit, rangeFirst, rangeLast, regionUnfit}
 use Rattle.rules.specs.Space.{trackerPage, processList, blockCopy, Mapping, unmapped, stack, maps, sectionRights, kernelRead, kernelWrite, sectionMapping, hasPage, inTracker, kernelPage, inStack, userPage, mappingAt}
 use Rattle.rules.specs.Order.{pagesFor, trackerPages, owner, useOf}
@@ -30,6 +30,7 @@ use Rattle.laws.specs.Choice.{false-not-true, by-choose, and-both, and-not-left
 use Rattle.laws.specs.Counts.{sum-none}
 use Rattle.accepted.specs.NoCause.{NoCause}
 use Rattle.accepted.specs.Sections.{section-at-page, page-from, page-to}
+use Rattle.accepted.specs.Stacks.{stack-at-most}
 use Rattle.accepted.specs.Tracker.{tracker-pages, tracker-byte, tracker-io}
 use Rattle.demands.specs.Mappings.{in-stack-slot, by-mapping}
 
@@ -144,8 +145,8 @@ module _ (x : Image) (ram : Area) (ok : NoCause x ram) where
 
   -- the range of a user process ends below its stack, which ends below the kernel's 4 MiB
   below-stack : (q v : ℕ) → q ≢ 1 → v ≤ rangeLast b q / 4096 → (v < stackFirst b q) × (stackFirst b q ≤ 0x80000)
-  unfolding rangeLast stackFirst stackPages choose
-  below-stack q v user h = let h′ = rw (ne-eqb q 1 user) at h in rw (ne-eqb q 1 user) (omega arith, omega arith)
+  unfolding rangeLast stackFirst choose
+  below-stack q v user h = let h′ = rw (ne-eqb q 1 user) at h in (omega (arith, stack-at-most b q), omega arith)
 
   user-section-page : (T q j v : ℕ) → q ≢ 1 → 1 ≤ q → q ≤ processCount b → j < sectionsOf b q → hasPage b v (sectionRecord b q j) ≡ true
       → mappingAt b T q v ≡ sectionMapping b q v (some j)

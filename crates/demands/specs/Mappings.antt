@@ -18,6 +18,7 @@ use Rattle.rules.specs.Load.{physPage, flashPage, dataPage}
 use Rattle.laws.specs.Choice.{false-not-true, by-test, by-choose, choose-yes, choose-no, and-left, and-right, and-both, choose-or}
 use Rattle.laws.specs.Lists.{Occurs, by-find-last, exists-hit, some-of-tab}
 use Rattle.accepted.specs.Sections.{has-page-first, has-page-last}
+use Rattle.accepted.specs.Stacks.{stack-at-most}
 use Rattle.order_laws.specs.Uses.{order-section, order-tracker, order-process-list, order-block-copy}
 
 pub in-tracker-first : (T v : ℕ) → inTracker T v ≡ true → 0xFFF40 ≤ v
@@ -28,11 +29,16 @@ pub in-tracker-last : (T v : ℕ) → inTracker T v ≡ true → v < 0xFFF40 + T
 unfolding inTracker
 in-tracker-last T v e = ltb-true _ _ (and-right (leb 0xFFF40 v) _ e)
 
+-- every stack lies in root slot 511, whatever its pages
 pub in-stack-slot : (b : List ℕ) (q v : ℕ) → inStack b q v ≡ true → v / 1024 ≡ 511
-unfolding inStack stackFirst stackPages
+unfolding inStack stackFirst
 in-stack-slot b q v e =
-    let few : choose (eqb q 1) 0 4 ≤ 4 = by-choose (λ n. n ≤ 4) (eqb q 1) 0 4 (λ _. omega arith) (λ _. omega arith) in
-    omega (arith, leb-true (0x80000 - choose (eqb q 1) 0 4) v (and-left _ (ltb v 0x80000) e), ltb-true v 0x80000 (and-right (leb (0x80000 - choose (eqb q 1) 0 4) v) _ e))
+    omega (
+      arith,
+      stack-at-most b q,
+      leb-true (0x80000 - stackPages b q) v (and-left _ (ltb v 0x80000) e),
+      ltb-true v 0x80000 (and-right (leb (0x80000 - stackPages b q) v) _ e),
+    )
 
 -- THE CASES. A page with the user right is of a section of the process itself, which is not the kernel
 module _ (P : Mapping → Type 0) (b : List ℕ) (T q v : ℕ)

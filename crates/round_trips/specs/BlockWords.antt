@@ -10,7 +10,7 @@ use Rattle.notation.specs.Lists.{tab, gather}
 use Rattle.notation.specs.Words.{word}
 use Rattle.laws.specs.Lists.{tab-by}
 use Rattle.rules.specs.Block.{processCount, sectionCount, regionCount, sectionsAt, regionsAt, processAt, sectionAt, regionAt}
-use Rattle.rules.specs.Block.{entryPoint, firstSection, sectionsOf, kind, address, size, flashOffset, flags, regionStart, regionPages}
+use Rattle.rules.specs.Block.{entryPoint, firstSection, sectionsOf, kindWord, address, size, flashOffset, flags, regionStart, regionPages}
 use Rattle.rules.specs.Writer.{recordsIn, recordsOf}
 
 -- w elements from index x on
@@ -46,9 +46,9 @@ module _ (b ws : List ℕ) (reads : (i : ℕ) → i < length ws → word b (4 * 
   word-at x k at e h = let z : at ≡ 4 * (x + k) = omega arith in rw z (reads (x + k) h)
 
   processes-are : 8 + 4 * processCount b ≤ length ws
-      → gather (processCount b) (λ i. entryPoint b (i + 1) ∷ firstSection b (i + 1) ∷ sectionsOf b (i + 1) ∷ kind b (i + 1) ∷ [])
+      → gather (processCount b) (λ i. entryPoint b (i + 1) ∷ firstSection b (i + 1) ∷ sectionsOf b (i + 1) ∷ kindWord b (i + 1) ∷ [])
       ≡ take (4 * processCount b) (drop 8 ws)
-  unfolding tab entryPoint firstSection sectionsOf kind processAt
+  unfolding tab entryPoint firstSection sectionsOf kindWord processAt
   processes-are h = parts-are 4 (processCount b) 8 ws _ h (λ i z. rw (
     word-at (8 + 4 * i) 0 (32 + 16 * (i + 1 - 1)) (omega arith) (omega arith),
     word-at (8 + 4 * i) 1 (32 + 16 * (i + 1 - 1) + 4) (omega arith) (omega arith),

@@ -2,7 +2,7 @@
 use mathlib.Core.Bool.{Bool, _&&_}
 use mathlib.Core.List.{List}
 use mathlib.Core.Option.{none, some}
-use Prim.Native.Nat.{ℕ, _+_, _-_, _*_, _/_}
+use Prim.Native.Nat.{ℕ, _+_, _-_, _*_, _/_, _%_}
 use lib.Dec.{leb, ltb, eqb}
 use Rattle.notation.specs.Choice.{choose}
 use Rattle.notation.specs.Lists.{sum, findLast}
@@ -73,17 +73,28 @@ firstSection b q = word b (processAt q + 4)
 unfoldable pub sectionsOf : List ℕ → ℕ → ℕ
 sectionsOf b q = word b (processAt q + 8)
 
-unfoldable pub kind : List ℕ → ℕ → ℕ
-kind b q = word b (processAt q + 12)
+unfoldable pub kindWord : List ℕ → ℕ → ℕ
+kindWord b q = word b (processAt q + 12)
 
 -- the four together
 unfoldable pub processRecord : List ℕ → ℕ → Process
-processRecord b q = record { «entry_point» = entryPoint b q; «first_section» = firstSection b q; sections = sectionsOf b q; kind = kind b q }
+processRecord b q = record { «entry_point» = entryPoint b q; «first_section» = firstSection b q; sections = sectionsOf b q; «kind_word» = kindWord b q }
 
--- its stack reservation: four pages that end at 0x80000000, none for the kernel; and the first of them
+-- THE KIND WORD (02, A7): the kind is its bits 0 to 7; its bits 8 to 15 are for the stack pages
+unfoldable pub kindOf : ℕ → ℕ
+kindOf w = w % 256
+
+unfoldable pub stackBits : ℕ → ℕ
+stackBits w = w / 256 % 256
+
+unfoldable pub kind : List ℕ → ℕ → ℕ
+kind b q = kindOf (kindWord b q)
+
+-- the pages of process q's stack: those bits of a user process, 0 meaning sixteen; the kernel has none
 unfoldable pub stackPages : List ℕ → ℕ → ℕ
-stackPages b q = choose (eqb q 1) 0 4
+stackPages b q = let n = stackBits (kindWord b q) in choose (eqb q 1) 0 (choose (eqb n 0) 16 n)
 
+-- its first virtual page: every stack ends at 0x80000000
 unfoldable pub stackFirst : List ℕ → ℕ → ℕ
 stackFirst b q = 0x80000 - stackPages b q
 
@@ -162,5 +173,5 @@ ioPages b = ioPagesOf b (regionCount b)
 
 -- all definitions of this file, to be unfolded as one
 unfoldable pub block-rules : Unit {0}
-unfolding format lengthField processCount processOffset sectionCount sectionOffset regionCount regionOffset sectionsAt regionsAt tightLength processAt entryPoint firstSection sectionsOf kind processRecord stackPages stackFirst sectionRecord hasSection ownerOf sectionAt address size flashOffset flags noCopy writable executable sectionEnd firstPage lastPage pageCount regionAt regionStart regionPages regionArea ioPagesOf ioPages
+unfolding format lengthField processCount processOffset sectionCount sectionOffset regionCount regionOffset sectionsAt regionsAt tightLength processAt entryPoint firstSection sectionsOf kindWord processRecord kindOf stackBits kind stackPages stackFirst sectionRecord hasSection ownerOf sectionAt address size flashOffset flags noCopy writable executable sectionEnd firstPage lastPage pageCount regionAt regionStart regionPages regionArea ioPagesOf ioPages
 block-rules = tt

@@ -15,12 +15,12 @@ use Rattle.rules.specs.Order.{order-rules}
 use Rattle.rules.specs.Refusals.{refusal-rules}
 use Rattle.rules.specs.Load.{answerOn, load-rules}
 
--- the small board's block, with the entry point of process 2, the address of B and the start of the region as given
-unfoldable pub board : ℕ → ℕ → ℕ → List ℕ
-board entry B region = bytesOf
+-- the small board's block, with the entry point and the kind word of process 2, the address of B and the start of the region as given
+unfoldable pub board : ℕ → ℕ → ℕ → ℕ → List ℕ
+board entry kindWord B region = bytesOf
     (1 ∷ 120 ∷ 2 ∷ 32 ∷ 3 ∷ 64 ∷ 1 ∷ 112
     ∷ 0xFFC0_0010 ∷ 0 ∷ 1 ∷ 0
-    ∷ entry ∷ 1 ∷ 2 ∷ 0
+    ∷ entry ∷ 1 ∷ 2 ∷ kindWord
     ∷ 0xFFC0_0000 ∷ 256 ∷ 0 ∷ 4
     ∷ 0x0001_0020 ∷ 64 ∷ 256 ∷ 4
     ∷ B ∷ 4096 ∷ 0 ∷ 3
@@ -28,7 +28,7 @@ board entry B region = bytesOf
     ∷ [])
 
 unfoldable pub smallBoard : List ℕ
-smallBoard = board 0x0001_0020 0x0002_0000 0xF000_0000
+smallBoard = board 0x0001_0020 0 0x0002_0000 0xF000_0000
 
 -- an example: the block, the bytes of flash from 0x20000000 on, the pages of RAM from 0x40000000 on, and the answer's number, place, free pages and
 -- offset
@@ -53,22 +53,22 @@ unfoldable pub allHold : List Example → Bool
 allHold [] = true
 allHold (x ∷ xs) = exampleHolds x && allHold xs
 
--- P1 to P12, the last with its two halves
+-- P1 to P12, the last with its two halves. P10 and P11 ask for a stack of four pages (02, A7)
 unfoldable pub examples : List Example
 examples =
     record { block = smallBoard; flash = 320; pages = 16; number = 0; place = 0; free = 1; offset = 0 }
     ∷ record { block = smallBoard; flash = 320; pages = 15; number = 0; place = 0; free = 0; offset = 0 }
     ∷ record { block = smallBoard; flash = 320; pages = 14; number = 12; place = 0; free = 0; offset = 0 }
     ∷ record { block = []; flash = 320; pages = 16; number = 2; place = 0; free = 0; offset = 0 }
-    ∷ record { block = board 0x0001_005F 0x0002_0000 0xF000_0000; flash = 320; pages = 16; number = 0; place = 0; free = 1; offset = 0 }
-    ∷ record { block = board 0x0001_0060 0x0002_0000 0xF000_0000; flash = 320; pages = 16; number = 10; place = 1; free = 0; offset = 48 }
+    ∷ record { block = board 0x0001_005F 0 0x0002_0000 0xF000_0000; flash = 320; pages = 16; number = 0; place = 0; free = 1; offset = 0 }
+    ∷ record { block = board 0x0001_0060 0 0x0002_0000 0xF000_0000; flash = 320; pages = 16; number = 10; place = 1; free = 0; offset = 48 }
     ∷ record { block = smallBoard; flash = 319; pages = 16; number = 9; place = 1; free = 0; offset = 80 }
-    ∷ record { block = board 0x0001_0020 0x0001_0060 0xF000_0000; flash = 320; pages = 16; number = 8; place = 2; free = 0; offset = 96 }
-    ∷ record { block = board 0x0001_0020 0x0001_1000 0xF000_0000; flash = 320; pages = 16; number = 0; place = 0; free = 1; offset = 0 }
-    ∷ record { block = board 0x0001_0020 0x7FFF_B000 0xF000_0000; flash = 320; pages = 16; number = 0; place = 0; free = 1; offset = 0 }
-    ∷ record { block = board 0x0001_0020 0x7FFF_B001 0xF000_0000; flash = 320; pages = 16; number = 8; place = 2; free = 0; offset = 96 }
-    ∷ record { block = board 0x0001_0020 0x0002_0000 0x4000_F000; flash = 320; pages = 16; number = 11; place = 0; free = 0; offset = 112 }
-    ∷ record { block = board 0x0001_0020 0x0002_0000 0x4001_0000; flash = 320; pages = 16; number = 0; place = 0; free = 1; offset = 0 }
+    ∷ record { block = board 0x0001_0020 0 0x0001_0060 0xF000_0000; flash = 320; pages = 16; number = 8; place = 2; free = 0; offset = 96 }
+    ∷ record { block = board 0x0001_0020 0 0x0001_1000 0xF000_0000; flash = 320; pages = 16; number = 0; place = 0; free = 1; offset = 0 }
+    ∷ record { block = board 0x0001_0020 0x0400 0x7FFF_B000 0xF000_0000; flash = 320; pages = 16; number = 0; place = 0; free = 1; offset = 0 }
+    ∷ record { block = board 0x0001_0020 0x0400 0x7FFF_B001 0xF000_0000; flash = 320; pages = 16; number = 8; place = 2; free = 0; offset = 96 }
+    ∷ record { block = board 0x0001_0020 0 0x0002_0000 0x4000_F000; flash = 320; pages = 16; number = 11; place = 0; free = 0; offset = 112 }
+    ∷ record { block = board 0x0001_0020 0 0x0002_0000 0x4001_0000; flash = 320; pages = 16; number = 0; place = 0; free = 1; offset = 0 }
     ∷ []
 
 -- the definitions above, to be unfolded as one

@@ -23,13 +23,13 @@ use Rattle.rules.specs.Tables.{leafEntry, table-rules}
 use Rattle.rules.specs.Load.{dataPage, answerOn, load-rules}
 use Rattle.rules.specs.Reader.{pageIn, pageBytes, entryBytes}
 
--- the small board's block, with the kind of process 2, the four words of A, the address of B and the start of the region as given. B is
+-- the small board's block, with the kind word of process 2, the four words of A, the address of B and the start of the region as given. B is
 -- executable, and process 2 is entered there
 unfoldable pub board : ℕ → List ℕ → ℕ → ℕ → List ℕ
-board kind A B region = bytesOf
+board kindWord A B region = bytesOf
     (1 ∷ 120 ∷ 2 ∷ 32 ∷ 3 ∷ 64 ∷ 1 ∷ 112
     ∷ 0xFFC0_0010 ∷ 0 ∷ 1 ∷ 0
-    ∷ B ∷ 1 ∷ 2 ∷ kind
+    ∷ B ∷ 1 ∷ 2 ∷ kindWord
     ∷ 0xFFC0_0000 ∷ 256 ∷ 0 ∷ 4
     ∷ (A
     ++ (B ∷ 4096 ∷ 0 ∷ 5
@@ -40,15 +40,15 @@ board kind A B region = bytesOf
 unfoldable pub image : ℕ → ℕ → List ℕ
 image n at = tab n (λ k. choose (eqb k at) 1 0)
 
--- WHICH SECTIONS ARE USED IN PLACE: the kind of process 2, the four words of A, the image, and whether A is
+-- WHICH SECTIONS ARE USED IN PLACE: the kind word of process 2, the four words of A, the image, and whether A is
 pub record Section : Type 0 where
-  pub kind : ℕ
+  pub kindWord : ℕ
   pub words : List ℕ
   pub flash : List ℕ
   pub used : Bool
 
 unfoldable pub isUsed : Section → Bool
-isUsed x = inPlace (board (x .kind) (x .words) 0x0002_0000 0xF000_0000) (x .flash) 1
+isUsed x = inPlace (board (x .kindWord) (x .words) 0x0002_0000 0xF000_0000) (x .flash) 1
 
 -- code at bytes 2 to 4,093 of flash, and of its page
 unfoldable pub code : List ℕ
@@ -57,22 +57,25 @@ code = 0x0001_0002 ∷ 4092 ∷ 2 ∷ 4 ∷ []
 unfoldable pub sections : List Section
 sections =
     -- code, and what can only be read, whatever its first and its last byte are; a whole page
-    record { kind = 1; words = code; flash = image 4096 2; used = true }
-    ∷ record { kind = 1; words = 0x0001_0002 ∷ 4092 ∷ 2 ∷ 0 ∷ []; flash = image 4096 4093; used = true }
-    ∷ record { kind = 1; words = 0x0001_0000 ∷ 4096 ∷ 0 ∷ 4 ∷ []; flash = image 4096 0; used = true }
-    -- kind 0; NOCOPY; writable; offset and address that do not agree
-    ∷ record { kind = 0; words = code; flash = image 4096 2; used = false }
-    ∷ record { kind = 1; words = 0x0001_0000 ∷ 4096 ∷ 0 ∷ 1 ∷ []; flash = image 4096 0; used = false }
-    ∷ record { kind = 1; words = 0x0001_0002 ∷ 4092 ∷ 2 ∷ 2 ∷ []; flash = image 4096 2; used = false }
-    ∷ record { kind = 1; words = 0x0001_0003 ∷ 4092 ∷ 2 ∷ 4 ∷ []; flash = image 4096 2; used = false }
+    record { kindWord = 1; words = code; flash = image 4096 2; used = true }
+    ∷ record { kindWord = 1; words = 0x0001_0002 ∷ 4092 ∷ 2 ∷ 0 ∷ []; flash = image 4096 4093; used = true }
+    ∷ record { kindWord = 1; words = 0x0001_0000 ∷ 4096 ∷ 0 ∷ 4 ∷ []; flash = image 4096 0; used = true }
+    -- kind 1 with stack bits
+    ∷ record { kindWord = 0x0401; words = code; flash = image 4096 2; used = true }
+    -- kind 0, with and without stack bits; NOCOPY; writable; offset and address that do not agree
+    ∷ record { kindWord = 0x0100; words = code; flash = image 4096 2; used = false }
+    ∷ record { kindWord = 0; words = code; flash = image 4096 2; used = false }
+    ∷ record { kindWord = 1; words = 0x0001_0000 ∷ 4096 ∷ 0 ∷ 1 ∷ []; flash = image 4096 0; used = false }
+    ∷ record { kindWord = 1; words = 0x0001_0002 ∷ 4092 ∷ 2 ∷ 2 ∷ []; flash = image 4096 2; used = false }
+    ∷ record { kindWord = 1; words = 0x0001_0003 ∷ 4092 ∷ 2 ∷ 4 ∷ []; flash = image 4096 2; used = false }
     -- the image ends a byte before the page, and a byte after it
-    ∷ record { kind = 1; words = code; flash = image 4095 2; used = false }
-    ∷ record { kind = 1; words = code; flash = image 4097 4096; used = true }
+    ∷ record { kindWord = 1; words = code; flash = image 4095 2; used = false }
+    ∷ record { kindWord = 1; words = code; flash = image 4097 4096; used = true }
     -- a byte beside it: the page's first, the one before it, the one after it, the page's last
-    ∷ record { kind = 1; words = code; flash = image 4096 0; used = false }
-    ∷ record { kind = 1; words = code; flash = image 4096 1; used = false }
-    ∷ record { kind = 1; words = code; flash = image 4096 4094; used = false }
-    ∷ record { kind = 1; words = code; flash = image 4096 4095; used = false }
+    ∷ record { kindWord = 1; words = code; flash = image 4096 0; used = false }
+    ∷ record { kindWord = 1; words = code; flash = image 4096 1; used = false }
+    ∷ record { kindWord = 1; words = code; flash = image 4096 4094; used = false }
+    ∷ record { kindWord = 1; words = code; flash = image 4096 4095; used = false }
     ∷ []
 
 pub in-place-sections : map isUsed sections ≡ map (λ (x : Section). x .used) sections

@@ -16,3 +16,4 @@ pub mod Examples
 pub mod SmallBoard
 pub mod InPlaceExamples
 pub mod WriterExamples
+pub mod StackExamples

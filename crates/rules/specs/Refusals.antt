@@ -1,4 +1,4 @@
--- 01, "When it says no", and 02, A6: each refusal's cause, and the first in their order. Ends are whole-number sums; nothing wraps.
+-- 01, "When it says no", and 02, A6 and A7: each refusal's cause, and the first in their order. Ends are whole-number sums; nothing wraps.
 use mathlib.Core.Bool.{Bool, not, _&&_}
 use mathlib.Core.List.{List, [], _∷_, _++_}
 use Prim.Native.Nat.{ℕ, zero, suc, _+_, _-_, _*_, _/_, _%_}
@@ -12,7 +12,7 @@ use Rattle.types.specs.declared.RecordCheck.{RecordCheck}
 use Rattle.types.specs.declared.Verdict.{Verdict}
 use Rattle.rules.specs.Lent.{Image, memoryArea, endOf, pagesIn, shareAddress}
 use Rattle.rules.specs.Block.{format, lengthField, processCount, processOffset, sectionCount, sectionOffset, regionCount, regionOffset, sectionsAt, regionsAt, tightLength}
-use Rattle.rules.specs.Block.{processAt, entryPoint, firstSection, sectionsOf, processRecord, stackFirst, sectionRecord, ownerOf, sectionAt, address, size, flashOffset, flags, noCopy, writable, executable, sectionEnd, firstPage, lastPage}
+use Rattle.rules.specs.Block.{processAt, entryPoint, firstSection, sectionsOf, processRecord, kindOf, stackBits, stackFirst, sectionRecord, ownerOf, sectionAt, address, size, flashOffset, flags, noCopy, writable, executable, sectionEnd, firstPage, lastPage}
 use Rattle.rules.specs.Block.{regionAt, regionStart, regionPages, regionArea, ioPagesOf}
 use Rattle.rules.specs.InPlace.{xipOf}
 use Rattle.rules.specs.Order.{pagesNeeded}
@@ -68,13 +68,21 @@ layoutNotTight b = any
 unfoldable pub sectionsBefore : List ℕ → ℕ → ℕ
 sectionsBefore b n = sum n (λ i. sectionsOf b (i + 1))
 
--- 6, for a process record, number i of p, where `before` is the sum of the section counts before it: its kind is 2 or more, or is 1 and it
--- is the kernel's, its section count is 0, its first section is not that sum, with its own count the sum passes s, or it is the last
--- record and that sum is not s
+-- 6, for the kind word w of process record i: the kind is 2 or more, or 1 on the kernel, a bit above 15 is set, or any of bits 8 to 15 on
+-- the kernel
+unfoldable pub kindUnfit : ℕ → ℕ → Bool
+kindUnfit w i = any
+    (ltb 1 (kindOf w)
+    ∷ (eqb i 0 && eqb (kindOf w) 1)
+    ∷ ltb 0xFFFF w
+    ∷ (eqb i 0 && not (eqb (stackBits w) 0))
+    ∷ [])
+
+-- 6, for a process record, number i of p, where `before` is the sum of the section counts before it: its kind word is unfit, its section
+-- count is 0, its first section is not that sum, with its own count the sum passes s, or it is the last record and that sum is not s
 unfoldable pub recordUnfit : Process → ℕ → ℕ → ℕ → ℕ → Bool
 recordUnfit r i p before s = any
-    (ltb 1 (r .kind)
-    ∷ (eqb (r .kind) 1 && eqb i 0)
+    (kindUnfit (r .«kind_word») i
     ∷ eqb (r .sections) 0
     ∷ not (eqb (r .«first_section») before)
     ∷ ltb s (before + r .sections)
@@ -95,7 +103,7 @@ sectionUnfit b n = any
     ∷ (noCopy b n && not (eqb (flashOffset b n) 0))
     ∷ [])
 
--- the range for the sections of process q: its first and its last address. For a user process it ends below the stack, at 0x7FFFBFFF
+-- the range for the sections of process q: its first and its last address. For a user process it ends just below its stack
 unfoldable pub rangeFirst : ℕ → ℕ
 rangeFirst q = choose (eqb q 1) 0xFFC0_0000 0x0000_1000
 
@@ -235,5 +243,5 @@ wellFormed b = eqb (firstRefusal (blockChecks b) .number) 0
 
 -- all definitions of this file, to be unfolded as one
 unfoldable pub refusal-rules : Unit {0}
-unfolding ramUnfit flashUnfit blockTooShort formatUnknown outside countsOutside countsOutOfBounds layoutNotTight sectionsBefore recordUnfit processUnfit sectionUnfit rangeFirst rangeLast sectionMisplaced sectionPastFlash entryPointOutside regionUnfit ramTooSmall processRecordCheck processCheck sectionRefusal sectionCheck entryPointCheck regionCheck refused accepted firstRecord firstRefusal lentChecks headerChecks processChecks blockChecks contentChecks checks verdict wellFormed
+unfolding ramUnfit flashUnfit blockTooShort formatUnknown outside countsOutside countsOutOfBounds layoutNotTight sectionsBefore kindUnfit recordUnfit processUnfit sectionUnfit rangeFirst rangeLast sectionMisplaced sectionPastFlash entryPointOutside regionUnfit ramTooSmall processRecordCheck processCheck sectionRefusal sectionCheck entryPointCheck regionCheck refused accepted firstRecord firstRefusal lentChecks headerChecks processChecks blockChecks contentChecks checks verdict wellFormed
 refusal-rules = tt

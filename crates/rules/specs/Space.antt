@@ -65,7 +65,7 @@ kernelPage b T v =
     (choose (eqb v 0xFFF00) (maps blockCopy kernelRead)
     (sectionAtPage b 1 v)))
 
--- the stack of a user process: virtual 0x7FFFC000 to 0x7FFFFFFF
+-- virtual page v is one of the stack of process q, which ends at 0x7FFFFFFF
 unfoldable pub inStack : List ℕ → ℕ → ℕ → Bool
 inStack b q v = leb (stackFirst b q) v && ltb v 0x80000
 

@@ -10,7 +10,7 @@ use Rattle.notation.specs.Words.{bytesOf}
 use Rattle.types.specs.declared.Verdict.{Verdict}
 use Rattle.types.specs.declared.Written.{Written}
 use Rattle.rules.specs.Block.{processCount, sectionCount, regionCount, sectionsFrom, regionsFrom, lengthFor}
-use Rattle.rules.specs.Block.{entryPoint, firstSection, sectionsOf, kind, address, size, flashOffset, flags, regionStart, regionPages}
+use Rattle.rules.specs.Block.{entryPoint, firstSection, sectionsOf, kindWord, address, size, flashOffset, flags, regionStart, regionPages}
 use Rattle.rules.specs.Refusals.{countsOutside, Check, whole, firstRefusal, processChecks}
 
 -- LISTS OF RECORDS: their words one after the other, as in the block: four for a process, four for a section, two for a region
@@ -26,7 +26,7 @@ recordsIn processes sections regions = record { processes = processes; sections 
 -- the records of a block
 unfoldable pub recordsOf : List ℕ → Records
 recordsOf b = recordsIn
-    (gather (processCount b) (λ i. entryPoint b (i + 1) ∷ firstSection b (i + 1) ∷ sectionsOf b (i + 1) ∷ kind b (i + 1) ∷ []))
+    (gather (processCount b) (λ i. entryPoint b (i + 1) ∷ firstSection b (i + 1) ∷ sectionsOf b (i + 1) ∷ kindWord b (i + 1) ∷ []))
     (gather (sectionCount b) (λ n. address b n ∷ size b n ∷ flashOffset b n ∷ flags b n ∷ []))
     (gather (regionCount b) (λ i. regionStart b i ∷ regionPages b i ∷ []))
 

@@ -75,13 +75,16 @@ examples =
     ∷ record { records = recordsIn (kernel ++ user) threeSections (times 33 region); room = 4096; number = 21; place = 0; length = 0; offset = 0 }
     -- the largest block
     ∷ record { records = recordsIn (gather 16 (λ i. 0 ∷ 4 * i ∷ 4 ∷ 0 ∷ [])) (times 64 kernel) (times 32 region); room = 4096; number = 0; place = 0; length = 1568; offset = 0 }
-    -- a user process of kind 1
+    -- a user process of kind 1, and one with a stack of 255 pages besides
     ∷ record { records = recordsIn (kernel ++ (0x0001_0020 ∷ 1 ∷ 2 ∷ 1 ∷ [])) threeSections region; room = 120; number = 0; place = 0; length = 120; offset = 0 }
-    -- 22 before 6; then 6: a kind of 2, a kernel of kind 1, no section, a first section that is not the sum before it, a sum that passes s,
+    ∷ record { records = recordsIn (kernel ++ (0x0001_0020 ∷ 1 ∷ 2 ∷ 0xFF01 ∷ [])) threeSections region; room = 120; number = 0; place = 0; length = 120; offset = 0 }
+    -- 22 before 6; then 6: a kind of 2, bit 16, a kernel of kind 1, one with a stack, no section, a first section that is not the sum before it, a sum that passes s,
     -- a sum short of s
     ∷ record { records = recordsIn (kernel ++ kernel) threeSections region; room = 119; number = 22; place = 0; length = 0; offset = 0 }
     ∷ record { records = recordsIn (kernel ++ (0x0001_0020 ∷ 1 ∷ 2 ∷ 2 ∷ [])) threeSections region; room = 120; number = 6; place = 1; length = 0; offset = 48 }
+    ∷ record { records = recordsIn (kernel ++ (0x0001_0020 ∷ 1 ∷ 2 ∷ 0x1_0000 ∷ [])) threeSections region; room = 120; number = 6; place = 1; length = 0; offset = 48 }
     ∷ record { records = recordsIn ((0xFFC0_0010 ∷ 0 ∷ 1 ∷ 1 ∷ []) ++ user) threeSections region; room = 120; number = 6; place = 0; length = 0; offset = 32 }
+    ∷ record { records = recordsIn ((0xFFC0_0010 ∷ 0 ∷ 1 ∷ 0x0100 ∷ []) ++ user) threeSections region; room = 120; number = 6; place = 0; length = 0; offset = 32 }
     ∷ record { records = recordsIn ((0xFFC0_0010 ∷ 0 ∷ 0 ∷ 0 ∷ []) ++ user) threeSections region; room = 120; number = 6; place = 0; length = 0; offset = 32 }
     ∷ record { records = recordsIn (kernel ++ kernel) threeSections region; room = 120; number = 6; place = 1; length = 0; offset = 48 }
     ∷ record { records = recordsIn (kernel ++ (0x0001_0020 ∷ 1 ∷ 3 ∷ 0 ∷ [])) threeSections region; room = 120; number = 6; place = 1; length = 0; offset = 48 }

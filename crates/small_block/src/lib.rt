@@ -7,9 +7,9 @@ pub const START: u32 = 0x4000_0000;
 // In bytes; 01 leaves open what they are.
 pub const FLASH: usize = 320;
 
-// The boot block, with the entry point of process 2, the address of its section B and the start of the region as given.
-pub fn board(entry_point: u32, section_b: u32, region: u32) -> [u8; 120]
-    ensures { λ r. ⌜ r ≡ boardOf «entry_point» «section_b» region ⌝ }
+// The boot block, with the entry point and the kind word of process 2, the address of its section B and the start of the region as given.
+pub fn board(entry_point: u32, kind_word: u32, section_b: u32, region: u32) -> [u8; 120]
+    ensures { λ r. ⌜ r ≡ boardOf «entry_point» «kind_word» «section_b» region ⌝ }
 {
     let words = [
         1,
@@ -27,7 +27,7 @@ pub fn board(entry_point: u32, section_b: u32, region: u32) -> [u8; 120]
         entry_point,
         1,
         2,
-        0,
+        kind_word,
         0xFFC0_0000,
         256,
         0,
@@ -52,5 +52,5 @@ pub fn board(entry_point: u32, section_b: u32, region: u32) -> [u8; 120]
 pub fn block() -> [u8; 120]
     ensures { λ r. ⌜ r ≡ smallBoard ⌝ }
 {
-    board(0x0001_0020, 0x0002_0000, 0xF000_0000)
+    board(0x0001_0020, 0, 0x0002_0000, 0xF000_0000)
 }

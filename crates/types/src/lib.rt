@@ -68,7 +68,7 @@ pub struct Process {
     pub entry_point: u32,
     pub first_section: u32,
     pub sections: u32,
-    pub kind: u32,
+    pub kind_word: u32,
 }
 
 // What the check of one record returns: the number of the refusal, or 0, and the record's byte offset in the block.

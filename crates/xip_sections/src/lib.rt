@@ -68,7 +68,7 @@ pub fn in_place(block: &[u8], flash: &[u8], n: usize) -> bool
         return false;
     }
     let process = block_records::read_process(block, owner);
-    if process.kind != 1 {
+    if block_records::kind_of(process.kind_word) != 1 {
         return false;
     }
     let section = block_records::read_section(block, n);

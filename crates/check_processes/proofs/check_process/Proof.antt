@@ -26,7 +26,7 @@ returns c =
     let n = c .before .before .before in
     let r = n .before .read-process-record .ensures in
     c .check-record .ensures
-    ∙ rw (r .kind-is, r .first-section, r .sections-of, n .sections-before .ensures .0, c .before .section-count .ensures, c .before .before .process-count .ensures)
+    ∙ rw (r .kind-word, r .first-section, r .sections-of, n .sections-before .ensures .0, c .before .section-count .ensures, c .before .before .process-count .ensures)
 
 pub check-process-spec : {M : Type 1} → statement M
 check-process-spec =

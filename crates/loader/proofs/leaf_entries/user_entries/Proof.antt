@@ -18,7 +18,7 @@ same-length c = search needs
 returns : tie.Need-returns
 returns c =
     let call = c .before .before in
-    user-is _ _ _ _ _ (call .before .before .before .before .before .map-sections .ensures) (call .before .stack-pages .ensures .0) (call .reserve-stack .ensures)
+    user-is _ _ _ _ _ (call .before .before .before .before .before .map-sections .ensures) (call .before .stack-pages .ensures) (call .reserve-stack .ensures)
 
 pub user-entries-spec : {M : Type 1} → statement M
 user-entries-spec =
