@@ -98,8 +98,8 @@ static uint32_t sections_of(const struct process *p)
 
 static void put_process(struct block *b, uint32_t i, const struct process *p)
 {
-    const uint32_t kind = ((p->runs[0].flags | p->runs[1].flags) & STRAIGHT) != 0;
-    const uint32_t record[4] = { p->entry_point, b->sections, sections_of(p), kind };
+    const uint32_t kind_word = ((p->runs[0].flags | p->runs[1].flags) & STRAIGHT) != 0;
+    const uint32_t record[4] = { p->entry_point, b->sections, sections_of(p), kind_word };
 
     put_words(b->bytes + 32 + 16 * i, record, 4);
     put_run(b, &p->runs[0]);

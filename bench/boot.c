@@ -11,8 +11,9 @@
  * Ends with 1 where the large board takes the proved loader over LIMIT times
  * as long as plain Rust, and with 2 where two loaders differ in an answer or
  * in a byte of RAM: after any timed load; for any block that the small board's
- * becomes when one of its bytes is changed, or that of the users from flash
- * when one of its bits is; and for any image of theirs in which a zero is
+ * becomes when one of its bytes is changed, or when it has a stack of another
+ * size and a section that ends there, or that of the users from flash when one
+ * of its bits is changed; and for any image of theirs in which a zero is
  * changed or that ends somewhat earlier.
  */
 #define _POSIX_C_SOURCE 200809L
@@ -28,6 +29,9 @@
 #define DIRT      0xA5
 #define TURNS_MAX 1000
 #define OTHERS    100 /* turns of another board for one of the large board */
+
+#define STACK_POINTER       0x80000000u /* where a stack ends */
+#define DEFAULT_STACK_PAGES 16u
 
 /* What is timed: the loaders; memset and memcpy, page by page; and parts of a
  * load: the checks, memset of each stretch that is cleared, and memcpy, page by
@@ -289,6 +293,23 @@ static void try_changed_blocks(void)
         }
 }
 
+/* The small board with every size of process 2's stack; its second section
+ * ends right below the stack, or one byte in it. */
+static void try_changed_stacks(void)
+{
+    make_board(SMALL_BOARD);
+    for (uint32_t bits = 0; bits < 256; bits++) {
+        const uint32_t pages = bits == 0 ? DEFAULT_STACK_PAGES : bits;
+        const uint32_t below = STACK_POINTER - (pages + 1) * PAGE, kind_word = bits << 8;
+
+        put_words(block.bytes + 32 + 16 + 12, &kind_word, 1);
+        for (uint32_t address = below; address < below + 2; address++) {
+            put_words(block.bytes + block.sections_at + 2 * 16, &address, 1);
+            load_all("small board with its stack changed");
+        }
+    }
+}
+
 /* Every block that differs from that of the users from flash in one bit; every
  * image that has a 1 for a zero; and images of up to 100 bytes less. */
 static void try_changed_flash_users(void)
@@ -354,6 +375,7 @@ static int compare_all(int turns, const char *limit)
     if (turns < 1 || turns > TURNS_MAX)
         return 2;
     try_changed_blocks();
+    try_changed_stacks();
     try_changed_flash_users();
     for (int i = 0; i < BOARDS; i++)
         measure(i, i == LARGE_BOARD ? turns : OTHERS * turns);

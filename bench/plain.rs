@@ -12,6 +12,7 @@ pub const KERNEL_SLOT: usize = 1023;
 
 pub const TOP_PAGES: usize = 4;
 const STACK_POINTER: u32 = 0x8000_0000;
+const DEFAULT_STACK_PAGES: u32 = 16;
 
 /// Flags of a section.
 pub const NOCOPY: u32 = 1;
@@ -58,7 +59,7 @@ pub struct Process {
     pub entry_point: u32,
     first: u32,
     sections: u32,
-    kind: u32,
+    kind_word: u32,
 }
 
 impl Process {
@@ -67,7 +68,19 @@ impl Process {
             entry_point: word(record, 0),
             first: word(record, 4),
             sections: word(record, 8),
-            kind: word(record, 12),
+            kind_word: word(record, 12),
+        }
+    }
+
+    fn kind(self) -> u32 {
+        self.kind_word & 0xFF
+    }
+
+    /// The pages that are reserved for a user process's stack.
+    pub fn stack_pages(self) -> u32 {
+        match self.kind_word >> 8 & 0xFF {
+            0 => DEFAULT_STACK_PAGES,
+            pages => pages,
         }
     }
 }
@@ -235,8 +248,12 @@ impl<'a> Records<'a> {
         let s = self.sections.len() as u64 / 16;
         let mut sum = 0u64;
         for (i, process) in self.processes().enumerate() {
-            let kinds = if i == 0 { 0 } else { 1 };
-            if process.kind > kinds || process.sections == 0 || process.first as u64 != sum {
+            // A user process has kind 0 or 1 and any stack bits.
+            let allowed = if i == 0 { 0 } else { 0xFF01 };
+            if process.kind_word & !allowed != 0
+                || process.sections == 0
+                || process.first as u64 != sum
+            {
                 return Err(self.refuse_process(6, i));
             }
             sum += process.sections as u64;
@@ -257,7 +274,8 @@ impl<'a> Records<'a> {
             let (first, end) = if i == 0 {
                 (0xFFC0_0000, 0xFFF0_0000)
             } else {
-                (0x0000_1000, 0x7FFF_C000)
+                let stack = PAGE as u32 * process.stack_pages();
+                (0x0000_1000, (STACK_POINTER - stack) as u64)
             };
             let mut above = 0;
             for section in self.sections(process) {
@@ -322,7 +340,7 @@ impl<'a> Records<'a> {
         for (i, process) in self.processes().enumerate() {
             let (mut tables, mut above) = (1, 0);
             for section in self.sections(process) {
-                if process.kind == 1
+                if process.kind() == 1
                     && section.flags & (NOCOPY | WRITABLE) == 0
                     && section.is_whole_in_flash(flash)
                 {
@@ -570,10 +588,10 @@ impl<'a> Tables<'a> {
         map(leaf, 0x380, 1, list << 10 | READ, DOWN);
     }
 
-    fn reserve_stack(&mut self) {
-        let leaf = self.leaf(STACK_SLOT);
-        for at in 1020..1024 {
-            put_word(leaf, 4 * at, RESERVED);
+    fn reserve_stack(&mut self, pages: u32) {
+        let from = 4 * (ENTRIES - pages) as usize;
+        for bytes in self.leaf(STACK_SLOT)[from..].chunks_exact_mut(4) {
+            bytes.copy_from_slice(&RESERVED.to_le_bytes());
         }
     }
 }
@@ -617,7 +635,7 @@ fn load_tables(
             tables.map_shared(tracker, plan.tracker);
             section_top = pages - TOP_PAGES;
         } else {
-            tables.reserve_stack();
+            tables.reserve_stack(process.stack_pages());
             tables.point(KERNEL_SLOT, kernel_leaf);
         }
         top = tables.top;

@@ -192,7 +192,8 @@ fn load_tables(
             map(leaf, 0x380, 1, list << 10 | READ, DOWN);
             section_top = pages - TOP_PAGES;
         } else {
-            tables.leaf(STACK_SLOT)[1020..].fill(RESERVED);
+            let stack = (ENTRIES - process.stack_pages()) as usize;
+            tables.leaf(STACK_SLOT)[stack..].fill(RESERVED);
         }
         tables.store_leaf();
         tables.root[KERNEL_SLOT] = kernel_leaf << 10 | POINTER;

@@ -32,7 +32,7 @@
 static const uint32_t block_words[BLOCK_BYTES / 4] = {
     /* format, length, and count and offset of each kind of record */
     1, BLOCK_BYTES, PROCESSES, 32, SECTIONS, SECTIONS_AT, REGIONS, REGIONS_AT,
-    /* processes: entry point, first section, section count, kind */
+    /* processes: entry point, first section, section count, kind word */
     0xFFC00010u, 0, 1, 0,
     0x00010020u, 1, 2, 0,
     /* sections: virtual address, size, flash offset, flags */

@@ -80,17 +80,19 @@ extern "C" {
  *       not 1 to 64, or the region count is over 32
  *   5   an offset is not the tight one, or the length field or the   0
  *       block's true length is not the tight length
- *   6   a process's kind is over 1, or is 1 and it is the kernel,    process
- *       its section count is 0, its first section is not the sum     record
- *       of the counts before it, its sum passes the section count,
- *       or the last sum is not the section count (then the last
- *       record)
+ *   6   a user process's kind (bits 0 to 7 of its kind word) is      process
+ *       over 1 or a bit above 15 is set in that word, the kernel's   record
+ *       kind word is not 0, a process's section count is 0, its
+ *       first section is not the sum of the counts before it, its
+ *       sum passes the section count, or the last sum is not the
+ *       section count (then the last record)
  *   7   a section's size is 0, a flag above 4 is set, writable and   section
  *       executable are both set, or NOCOPY has a flash offset        record
  *       other than 0
- *   8   a section is not wholly in its owner's range, or its first   section
- *       page is not above the last page of the same process's        record
- *       previous section
+ *   8   a section is not wholly in its owner's range (the kernel's:  section
+ *       0xFFC00000 to 0xFFEFFFFF; a user process's: from 0x00001000  record
+ *       to the last byte below its stack), or its first page is not
+ *       above the last page of the same process's previous section
  *   9   a section without NOCOPY runs past the end of flash          section
  *                                                                    record
  *  10   an entry point is not in an executable section of its        process
@@ -139,6 +141,12 @@ extern "C" {
  *   ram_start  RAM's physical address, a multiple of 4,096
  *
  * Returns 0, or the number of the refusal.
+ *
+ * Kind and stack. A process record's last word is its kind word. The
+ * kernel's is 0. In a user process's, bits 0 to 7 are the kind, 0 or 1, and
+ * bits 8 to 15 say how many pages its stack has: 1 to 255, or 0 for sixteen.
+ * A stack of n pages lies from 0x80000000 - 4,096 n to 0x7FFFFFFF. The load
+ * reserves these pages and gives them no RAM; sections lie below them.
  *
  * Straight from flash. In a user process of kind 1, a section with neither
  * NOCOPY nor writable takes no RAM, and its table entries name pages of flash,
@@ -313,7 +321,7 @@ uint64_t rigpollen_page(const uint8_t *ram, uint64_t ram_length,
 
 /* How many words a record has. */
 #define RIGPOLLEN_PROCESS_RECORD_WORDS 4 /* entry point, first section,
-                                            section count, kind          */
+                                            section count, kind word     */
 #define RIGPOLLEN_SECTION_RECORD_WORDS 4 /* address, size, flash offset,
                                             flags                        */
 #define RIGPOLLEN_REGION_RECORD_WORDS  2 /* start, pages                 */
@@ -368,9 +376,9 @@ uint32_t rigpollen_write_block(const uint32_t *processes,
  * Page table entries. A page's entry carries accessed, and dirty too if it can
  * be written; so no first use of a page faults on a chip that does not set
  * these bits itself, and a kernel that looks for used or changed pages clears
- * them first. A pointer's entry has its valid bit alone. The entries of a
- * stack's reserve are 22, which is not valid: there the kernel has to put a
- * page.
+ * them first. A pointer's entry has its valid bit alone. The entries of all
+ * pages of a user process's stack, as many as its kind word says, are 22, which
+ * is not valid: there the kernel has to put a page.
  *
  * The tracker has one byte for each RAM page, rising, then one for each I/O
  * page of the regions in record order: 0 is free, else the number of the

@@ -27,7 +27,7 @@ size_t write_block(const struct board *board, uint8_t block[MAX_BLOCK])
         at = put(at, board->process[i].entry);
         at = put(at, board->process[i].first);
         at = put(at, board->process[i].count);
-        at = put(at, board->process[i].kind);
+        at = put(at, board->process[i].kind_word);
     }
     for (uint32_t i = 0; i < s; i++) {
         at = put(at, board->section[i].address);
@@ -176,6 +176,35 @@ void flash_board(struct board *board)
     give_pages(board);
 }
 
+/* -------------------------------------------------------- the stack board */
+
+/* The last section of each user process ends with the byte below its stack.
+ * Those of processes 3 and 4 are used straight from flash. */
+void stack_board(struct board *board)
+{
+    const struct board made = {
+        .processes = 5, .sections = 7, .regions = 1,
+        .process = { { 0xFFC00010, 0, 1, 0 }, { 0x00010020, 1, 2, 0x0400 },
+                     { 0x7FFFD800, 3, 1, 0x0101 }, { 0x7FF00020, 4, 1, 0xFF01 },
+                     { 0x00010020, 5, 2, 0 } },
+        .section = { { 0xFFC00000, 256, 0, EXECUTABLE },
+                     { 0x00010020, 64, 0x100, EXECUTABLE },
+                     { 0x7FFFB000, 4096, 0, NOCOPY | WRITABLE },
+                     { 0x7FFFD800, 0x1800, 0x1800, EXECUTABLE },
+                     { 0x7FF00020, 0x0FE0, 0x3020, EXECUTABLE },
+                     { 0x00010020, 64, 0x100, EXECUTABLE },
+                     { 0x7FFEFFFF, 1, 0x100, WRITABLE } },
+        .region = { { 0xF0000000, 2 } },
+        .flash_length = 0x4000, .flash_start = FLASH,
+    };
+
+    *board = made;
+    fill_random(board->flash, board->flash_length, 1);
+    clear_beside(board, &board->section[3]);
+    clear_beside(board, &board->section[4]);
+    give_pages(board);
+}
+
 /* ------------------------------------------------------- generated boards */
 
 /* Flash starts at most so many pages above FLASH. */
@@ -186,8 +215,13 @@ struct range {
     uint32_t low, high; /* first page, page after the last */
 };
 
-static const struct range user_range = { 0x00001, 0x7FFFC };
-static const struct range kernel_range = { 0xFFC00, 0xFFF00 };
+static struct range range_of(const struct process *process)
+{
+    const struct range kernel = { 0xFFC00, 0xFFF00 };
+    const struct range user = { 0x00001, STACK_END - stack_pages(process) };
+
+    return process->first == 0 ? kernel : user;
+}
 
 /* Pages left free before a section that could start at `page`: none, so that
  * it touches the one before; a few; up to a 4 MiB block; up to all that `most`
@@ -312,7 +346,7 @@ static void share_code(struct random *random, struct board *board,
 static void add_sections(struct random *random, struct board *board,
                          const struct process *process, int to_the_end)
 {
-    const struct range range = process->first == 0 ? kernel_range : user_range;
+    const struct range range = range_of(process);
     const uint32_t count = process->count;
     uint32_t page = range.low;
 
@@ -326,7 +360,7 @@ static void add_sections(struct random *random, struct board *board,
             page = range.high - pages;
         section->flags = i == 0 ? EXECUTABLE : flags_in_turn(board->sections);
         shape(random, section, page, pages);
-        if (process->kind == 0)
+        if (process_kind(process) == 0)
             source(random, section, board->flash_length);
         else if (i > 0)
             source_of_kind_1(random, board, section);
@@ -337,17 +371,27 @@ static void add_sections(struct random *random, struct board *board,
     }
 }
 
-/* Processes 2 and 3 are of kind 1, the kernel is of kind 0. */
+/* Bits 8 to 15 of a user process's kind word: every second one at an edge. */
+static uint32_t stack_bits(struct random *random)
+{
+    static const uint32_t edges[4] = { 0, 1, 4, 255 };
+    const uint32_t pages = one_in(random, 2) ? edges[between(random, 0, 3)]
+                           : between(random, 0, 255);
+
+    return pages << 8;
+}
+
+/* Processes 2 and 3 are of kind 1, the kernel's kind word is 0. */
 static void add_process(struct random *random, struct board *board)
 {
     struct process *process = &board->process[board->processes];
+    const uint32_t kind = board->processes == 0 ? 0 : board->processes < 3 ? 1
+                          : between(random, 0, 1);
     const struct section *code;
 
-    process->kind = board->processes == 0 ? 0 : board->processes < 3 ? 1
-                    : between(random, 0, 1);
+    process->kind_word = board->processes == 0 ? 0 : kind | stack_bits(random);
     process->first = board->sections;
-    process->count = process->kind == 0 ? between(random, 4, 7)
-                     : between(random, 7, 9);
+    process->count = kind == 0 ? between(random, 4, 7) : between(random, 7, 9);
     add_sections(random, board, process, one_in(random, 2));
     code = &board->section[process->first];
     process->entry = code->address + between(random, 0, code->size - 1);

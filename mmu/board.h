@@ -1,5 +1,5 @@
-/* Boards to be loaded: 01's small board, one with programs in flash, and boards
- * made from a seed. */
+/* Boards to be loaded: 01's small board, one with programs in flash, one with
+ * stacks of several sizes, and boards made from a seed. */
 #ifndef BOARD_H
 #define BOARD_H
 
@@ -19,7 +19,7 @@
 #define EXECUTABLE   4u
 
 struct process {
-    uint32_t entry, first, count, kind;
+    uint32_t entry, first, count, kind_word;
 };
 
 struct section {
@@ -46,6 +46,10 @@ void small_board(struct board *board);
 /* Kind 1, with a section for each reason to copy it; a flash page that two
  * processes reach. Flash is in the machine's memory. */
 void flash_board(struct board *board);
+
+/* Stacks of 4, 1, 255 and 16 pages, each with a section right below it; two of
+ * the processes are of kind 1. Flash is in the machine's memory. */
+void stack_board(struct board *board);
 
 /* Seeds give boards that boot; different seeds, different boards. Flash is in
  * the machine's memory. */

@@ -2,10 +2,11 @@
  * compare NAME RAM EXPECTED
  *
  * Compares what the stub recorded in the machine's memory with what was
- * expected, and the board's RAM after the run with the same before it. Prints
- * one line about the board NAME and ends with 0 if all agrees; otherwise prints
- * a line for each of the first ten differences and ends with 1. Ends with 2 if
- * there is nothing to compare.
+ * expected, the reserved entries of the tables with those expected, and the
+ * board's RAM after the run with the same before it. Prints one line about the
+ * board NAME and ends with 0 if all agrees; otherwise prints a line for each of
+ * the first ten differences and ends with 1. Ends with 2 if there is nothing to
+ * compare.
  */
 #include <stdio.h>
 #include <stdlib.h>
@@ -16,6 +17,7 @@
 #include "plan.h"
 
 #define PAGE_WORDS 1024u
+#define RESERVED   22u /* an entry of a stack page to come */
 
 static void fail(const char *what)
 {
@@ -77,7 +79,7 @@ static struct process_expected *read_process(FILE *file)
     read_all(file, process->rights, VIRTUAL_PAGES);
     process->seen = 0;
     for (uint32_t page = 0; page < VIRTUAL_PAGES; page++)
-        process->seen += process->rights[page] != SEEN_NOTHING;
+        process->seen += (process->rights[page] & SEEN_PAGE) != 0;
     process->bytes = allocate((size_t)process->seen * PAGE_BYTES);
     read_all(file, process->bytes, (size_t)process->seen * PAGE_BYTES);
     return process;
@@ -103,7 +105,7 @@ static void read_expectation(const char *name, struct expectation *expectation)
 static uint32_t outcome_expected(uint32_t rights, uint32_t mode)
 {
     const int user = (rights & SEEN_USER) != 0;
-    const int page = rights != SEEN_NOTHING;
+    const int page = (rights & SEEN_PAGE) != 0;
     const int data = page && (mode == MODE_S_SUM || user == (mode == MODE_U));
     const int code = page && user == (mode == MODE_U);
     const int jump = code && (rights & SEEN_EXECUTE);
@@ -118,6 +120,7 @@ static uint32_t outcome_expected(uint32_t rights, uint32_t mode)
 /* ------------------------------------------------------ what was recorded */
 
 struct recorded {
+    struct orders orders;
     uint32_t *word, *end;
     uint32_t *ram; /* after the run */
 };
@@ -145,6 +148,8 @@ static void read_recorded(const char *name, uint32_t pages,
     struct head head;
     size_t length;
 
+    seek(file, ORDERS);
+    read_all(file, &recorded->orders, sizeof recorded->orders);
     seek(file, RECORDS);
     read_all(file, &head, sizeof head);
     check_state(head.state);
@@ -176,6 +181,9 @@ static unsigned long differences;
 
 /* Virtual pages of which U loaded just flash's bytes. */
 static uint32_t flash_pages;
+
+/* Virtual pages that are reserved as expected. */
+static uint32_t reserved_pages;
 
 /* True for the first ten. */
 static int differs(void)
@@ -273,8 +281,45 @@ static void compare_pages(const struct expectation *expectation,
             fail("a page that can be loaded has no bytes in the records");
         else if (loaded && mode == MODE_U && own->rights[page] & SEEN_FLASH)
             flash_pages++;
-        if (own->rights[page] != SEEN_NOTHING)
+        if (own->rights[page] & SEEN_PAGE)
             bytes += PAGE_BYTES;
+    }
+}
+
+/* The entry for a virtual page as the tables had it before the run: the one in
+ * the root table where that is no pointer into RAM. */
+static uint32_t entry_of(const struct expectation *expectation, uint32_t satp,
+                         uint32_t page)
+{
+    const uint32_t root = (satp & 0x3FFFFF) - IMAGE / PAGE_BYTES;
+    uint32_t entry, leaf;
+
+    if (root >= expectation->head.pages)
+        fail("a root table is outside RAM");
+    entry = expectation->ram[root * PAGE_WORDS + page / PAGE_WORDS];
+    leaf = (entry >> 10) - IMAGE / PAGE_BYTES;
+    if ((entry & 0xF) != 1 || leaf >= expectation->head.pages)
+        return entry;
+    return expectation->ram[leaf * PAGE_WORDS + page % PAGE_WORDS];
+}
+
+/* To an MMU reserved is absent, so no probe can tell them: the entries of one
+ * process are read. */
+static void compare_reserve(const struct expectation *expectation,
+                            uint32_t process, uint32_t satp)
+{
+    const uint8_t *rights = expectation->process[process - 1]->rights;
+
+    for (uint32_t page = 0; page < VIRTUAL_PAGES; page++) {
+        const uint32_t entry = entry_of(expectation, satp, page);
+        const int reserved = rights[page] == SEEN_RESERVED;
+
+        if ((entry == RESERVED) == reserved)
+            reserved_pages += reserved;
+        else if (differs())
+            printf("process %u address 0x%08X: expected %s, its entry is"
+                   " 0x%08X\n", process, page * PAGE_BYTES,
+                   reserved ? "reserved" : "not reserved", entry);
     }
 }
 
@@ -324,6 +369,14 @@ static void compare_pass(const struct expectation *expectation,
     compare_pages(expectation, recorded, process, mode);
 }
 
+static void compare_process(const struct expectation *expectation,
+                            struct recorded *recorded, uint32_t process)
+{
+    for (uint32_t mode = 0; mode < MODES; mode++)
+        compare_pass(expectation, recorded, process, mode);
+    compare_reserve(expectation, process, recorded->orders.satp[process - 1]);
+}
+
 static void print_agreement(const char *name,
                             const struct expectation *expectation,
                             uint32_t changed)
@@ -334,8 +387,9 @@ static void print_agreement(const char *name,
     for (uint32_t q = 0; q < processes; q++)
         seen += expectation->process[q]->seen;
     printf("board %s: %u processes, %u pages of RAM, %u virtual pages seen,"
-           " %u of them in flash, %llu probes agree, %u words changed\n", name,
-           processes, expectation->head.pages, seen, flash_pages,
+           " %u of them in flash, %u reserved, %llu probes agree, %u words"
+           " changed\n", name, processes, expectation->head.pages, seen,
+           flash_pages, reserved_pages,
            3ull * MODES * VIRTUAL_PAGES * processes, changed);
 }
 
@@ -350,8 +404,7 @@ int main(int argc, char **argv)
     read_expectation(argv[3], &expectation);
     read_recorded(argv[2], expectation.head.pages, &recorded);
     for (uint32_t process = 1; process <= expectation.head.processes; process++)
-        for (uint32_t mode = 0; mode < MODES; mode++)
-            compare_pass(&expectation, &recorded, process, mode);
+        compare_process(&expectation, &recorded, process);
     changed = compare_ram(&expectation, &recorded);
     compare_high_bits(&expectation);
     if (recorded.word != recorded.end)

@@ -5,7 +5,7 @@
  *   `pages` bytes, one for each RAM page: NO_TABLE, ROOT_TABLE or LEAF_TABLE
  *   RAM as it is before the machine runs, 4,096 bytes for each page
  *   for each process: a byte for each virtual page (SEEN_ values of plan.h),
- *   then the 4,096 bytes of each page that is seen, rising
+ *   then the 4,096 bytes of each that has SEEN_PAGE, rising
  */
 #ifndef EXPECTED_H
 #define EXPECTED_H

@@ -1,12 +1,12 @@
 /*
- * image BOARD RAM EXPECTED [ENTRY BIT]
+ * image BOARD RAM EXPECTED [ADDRESS BITS]
  *
  * Loads a board with the library and writes two files: RAM, the memory of the
  * machine that is to be started, with the loaded board and the stub's orders
  * in it, and flash where the machine has memory for it; EXPECTED, what 01's
- * rules give every process at every virtual page. BOARD is `small`, `flash` or
- * a seed. With ENTRY (0 to 1,023) and BIT (0 to 31), one bit is then flipped in
- * RAM: in that entry of process 2's leaf table for root slot 0.
+ * rules give every process at every virtual page. BOARD is `small`, `flash`,
+ * `stack` or a seed. With ADDRESS and BITS, these bits are then flipped in RAM:
+ * in the entry of process 2 for the page at this virtual address.
  */
 #include <stdio.h>
 #include <stdlib.h>
@@ -76,14 +76,19 @@ static uint8_t *load(const struct board *board, const struct plan *plan)
 }
 
 static void damage(const struct board *board, const struct plan *plan,
-                   uint8_t *ram, const char *entry, const char *bit)
+                   uint8_t *ram, const char *address, const char *bits)
 {
-    const uint32_t leaf = board->processes > 1 ? plan->leaf[1][0] : NO_PAGE;
-    const unsigned long e = strtoul(entry, NULL, 0), i = strtoul(bit, NULL, 0);
+    const uint32_t page = (uint32_t)strtoul(address, NULL, 0) / PAGE_BYTES;
+    const uint32_t flipped = (uint32_t)strtoul(bits, NULL, 0);
+    const uint32_t leaf = board->processes > 1 ? plan->leaf[1][page / 1024]
+                          : NO_PAGE;
+    uint8_t *entry;
 
-    if (leaf == NO_PAGE || e > 1023 || i > 31)
-        fail("there is no such bit to flip");
-    ram[(size_t)leaf * PAGE_BYTES + 4 * e + i / 8] ^= (uint8_t)(1u << i % 8);
+    if (leaf == NO_PAGE)
+        fail("there is no such entry to damage");
+    entry = ram + (size_t)leaf * PAGE_BYTES + 4 * (page % 1024);
+    for (int i = 0; i < 4; i++)
+        entry[i] ^= (uint8_t)(flipped >> 8 * i);
 }
 
 /* ------------------------------------------------------------- the files */
@@ -149,7 +154,7 @@ static void write_process(FILE *file, const struct board *board,
         rights[page] = (uint8_t)seen(board, plan, process, page, bytes);
     write_all(file, rights, sizeof rights);
     for (uint32_t page = 0; page < VIRTUAL_PAGES; page++)
-        if (rights[page] != SEEN_NOTHING) {
+        if (rights[page] & SEEN_PAGE) {
             seen(board, plan, process, page, bytes);
             write_all(file, bytes, sizeof bytes);
         }
@@ -176,11 +181,13 @@ int main(int argc, char **argv)
     uint8_t *ram;
 
     if (argc != 4 && argc != 6)
-        fail("usage: image BOARD RAM EXPECTED [ENTRY BIT]");
+        fail("usage: image BOARD RAM EXPECTED [ADDRESS BITS]");
     if (strcmp(argv[1], "small") == 0)
         small_board(&board);
     else if (strcmp(argv[1], "flash") == 0)
         flash_board(&board);
+    else if (strcmp(argv[1], "stack") == 0)
+        stack_board(&board);
     else
         generated_board(&board, strtoull(argv[1], NULL, 0));
     make_plan(&board, &plan);

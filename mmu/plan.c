@@ -24,6 +24,20 @@ static uint32_t page_count(const struct section *section)
     return last_page(section) - first_page(section) + 1;
 }
 
+/* ---------------------------------------------------------- the kind word */
+
+uint32_t process_kind(const struct process *process)
+{
+    return process->kind_word & 0xFF;
+}
+
+uint32_t stack_pages(const struct process *process)
+{
+    const uint32_t pages = process->kind_word >> 8 & 0xFF;
+
+    return pages == 0 ? 16 : pages;
+}
+
 /* ----------------------------------------------------- straight from flash */
 
 static int all_zero(const struct board *board, uint32_t from, uint32_t end)
@@ -43,7 +57,7 @@ static int straight_from_flash(const struct board *board, uint32_t process,
     const uint32_t first = offset / PAGE_BYTES * PAGE_BYTES;
     const uint32_t last = (end - 1) / PAGE_BYTES * PAGE_BYTES;
 
-    return process != 0 && board->process[process].kind == 1
+    return process != 0 && process_kind(&board->process[process]) == 1
            && !(section->flags & (NOCOPY | WRITABLE))
            && offset % PAGE_BYTES == section->address % PAGE_BYTES
            && last + PAGE_BYTES <= board->flash_length
@@ -302,6 +316,9 @@ uint32_t seen(const struct board *board, const struct plan *plan,
         return seen_kernel(board, plan, page, bytes);
     if (process == 0)
         return SEEN_NOTHING;
+    if (page < STACK_END
+        && page >= STACK_END - stack_pages(&board->process[process]))
+        return SEEN_RESERVED;
     answer = seen_section(board, plan, process, page, bytes);
     return answer == SEEN_NOTHING ? answer : answer | SEEN_USER;
 }

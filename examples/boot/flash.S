@@ -10,6 +10,9 @@
 #define WRITABLE   2
 #define EXECUTABLE 4
 
+/* A user process's kind word. A stack of 0 pages has sixteen. */
+#define KIND_WORD(kind, stack_pages) ((kind) | (stack_pages) << 8)
+
 /* Others can be tried: `run rv32imac -DCONSTANTS_FLAGS=2`. */
 #ifndef KERNEL_FLAGS
 #define KERNEL_FLAGS EXECUTABLE
@@ -27,10 +30,10 @@ block:
     .word (regions - sections) / 16, sections - block
     .word (block_end - regions) / 8, regions - block
 
-processes: /* entry point, first section, section count, kind */
+processes: /* entry point, first section, section count, kind word */
     .word KERNEL_CODE, 0, 2, 0
-    .word USER_CODE, 2, 3, 0
-    .word USER_CODE, 5, 3, 1
+    .word USER_CODE, 2, 3, KIND_WORD(0, 0)
+    .word USER_CODE, 5, 3, KIND_WORD(1, 4)
 
 sections: /* virtual address, size, flash offset, flags */
     .word KERNEL_CODE, kernel_end - kernel, kernel - block, KERNEL_FLAGS
