@@ -17,7 +17,7 @@ pub enum Word {
 // A line is empty, or a record with its words, or at fault.
 pub enum Line {
     Empty,
-    // Entry point, first section, section count, kind.
+    // Entry point, first section, section count, kind word.
     Process(u32, u32, u32, u32),
     // Virtual address, size, flash offset, flags.
     Section(u32, u32, u32, u32),

@@ -209,6 +209,7 @@ fn print_help() {
           \x20 process ENTRY FIRST COUNT KIND\n\
           \x20 section ADDRESS SIZE OFFSET FLAGS\n\
           \x20 region START PAGES\n\
+          KIND: 0 for the kernel; else 256 times the pages of the stack (0: sixteen), and 1 more where sections may be used in place\n\
           BLOCK: the boot block file, which is made, or written over where there is one\n\
           Commas, semicolons, blanks and tabs separate the fields. Numbers are decimal, or hexadecimal after 0x.\n\
           # starts a comment. Lines of the three kinds may be mixed, and keep their order within a kind.\n\
