@@ -21,7 +21,7 @@ use crate::cases::{self, Case};
 use crate::check;
 use crate::lists;
 use crate::memory::Memory;
-use crate::met::{Kind, Met};
+use crate::met::{self, Met};
 use crate::reader;
 use crate::rng::Rng;
 use crate::rules::{self, Fault, Outcome, PAGE};
@@ -141,10 +141,10 @@ fn write_walks(out: &mut Out, case: &Case, want: &Outcome, rng: &mut Rng) {
     let processes = boot.plan.processes();
     out.words(&[*processes.end() * WALKS_OF_A_PROCESS as u32]);
     for process in processes {
-        let seen: Vec<u32> = boot.plan.seen_pages(process).collect();
+        let telling: Vec<u32> = boot.plan.telling_pages(process).collect();
         for _ in 0..WALKS_OF_A_PROCESS {
             let near = rng.below(3) as u32;
-            let page = rng.pick(&seen).wrapping_add(near).wrapping_sub(1);
+            let page = rng.pick(&telling).wrapping_add(near).wrapping_sub(1);
             let address = page << 12 | rng.below(PAGE) as u32;
             let read = Reading {
                 ram: Memory {
@@ -280,7 +280,7 @@ pub fn write(path: &str, seed: u64, count: u64) -> Result<(), String> {
         met.case(&case, &want);
     }
     file.flush().map_err(failed)?;
-    let cases_met = met.missing(0..Kind::ByLastByte as usize);
+    let cases_met = met.missing(met::OF_A_FILE);
     let missing = numbers.missing().or(writings.missing()).or(cases_met);
     if let Some(never) = missing.filter(|_| count >= 1000) {
         return Err(format!("{never} never came up in {count} cases"));

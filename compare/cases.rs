@@ -2,9 +2,10 @@
 //! random blocks, each with a flash image and dirty RAM.
 
 use crate::draft::{self, Draft, ProcessRecord, RegionRecord, SectionRecord};
+use crate::kind_word;
 use crate::memory::{Area, Memory};
 use crate::rng::Rng;
-use crate::rules::{self, Fault, EXECUTABLE, KERNEL, NOCOPY, PAGE, USER};
+use crate::rules::{self, Fault, EXECUTABLE, NOCOPY, PAGE};
 use crate::small;
 
 pub struct Case {
@@ -33,13 +34,13 @@ impl Case {
     }
 }
 
-/// Case `number` of the run with this seed. The first are 01's P1 to P12.
+/// Case `number` of the run with this seed. The first are those of the small board: P1 to P12, then A7's.
 pub fn generate(seed: u64, number: u64) -> Case {
     let mut rng = Rng::new(seed, number, 0);
     let (what, draft) = match small::marked(number) {
         Some(mut marked) => {
             rng.fill(&mut marked.draft.flash);
-            (marked.name.to_string(), marked.draft)
+            (marked.name, marked.draft)
         }
         None => match rng.below(100) {
             0..=39 => ("valid board".to_string(), draft::valid(&mut rng, 0)),
@@ -86,10 +87,12 @@ fn damaged(rng: &mut Rng) -> (String, Draft) {
     let count = if rng.chance(75) { 1 } else { rng.between(2, 3) };
     let mut what = "damaged at".to_string();
     for _ in 0..count {
-        // 11 and 13, which have the most causes, twice as often as the others.
-        let number = match rng.between(1, 15) {
-            14 => 11,
-            15 => 13,
+        // 6, 8, 11 and 13, which have the most causes, more often than the others.
+        let number = match rng.between(1, 18) {
+            14..=15 => 11,
+            16 => 13,
+            17 => 6,
+            18 => 8,
             number => number,
         };
         what += &format!(" {number}");
@@ -111,8 +114,10 @@ fn damage(rng: &mut Rng, draft: &mut Draft, number: u64) {
         }
         4 => damage_counts(rng, draft),
         5 => damage_offsets(rng, draft),
+        6 if rng.chance(60) => damage_kind_word(rng, draft),
         6 => damage_process(rng, draft),
         7 => damage_section(rng, draft),
+        8 if rng.chance(60) => damage_by_stack(rng, draft),
         8 => damage_section_place(rng, draft),
         9 => damage_flash(rng, draft),
         10 => damage_entry(rng, draft),
@@ -187,7 +192,7 @@ fn damage_counts(rng: &mut Rng, draft: &mut Draft) {
                     entry: 0x1000,
                     first: s,
                     count: 1,
-                    kind: 0,
+                    kind_word: 0,
                 });
             }
         }
@@ -253,7 +258,18 @@ fn damage_offsets(rng: &mut Rng, draft: &mut Draft) {
     }
 }
 
-/// 6: kinds, counts and sums of the process records.
+/// 6: every bit of the kind word, on the kernel and on users.
+fn damage_kind_word(rng: &mut Rng, draft: &mut Draft) {
+    if draft.processes.is_empty() {
+        return;
+    }
+    let last = draft.processes.len() - 1;
+    let any = rng.index(last + 1);
+    let process = &mut draft.processes[rng.pick(&[0, any, any, last])];
+    process.kind_word = draft::draw_kind_word(rng, process.kind_word);
+}
+
+/// 6: counts and sums of the process records.
 fn damage_process(rng: &mut Rng, draft: &mut Draft) {
     if draft.processes.is_empty() {
         return;
@@ -262,11 +278,8 @@ fn damage_process(rng: &mut Rng, draft: &mut Draft) {
     let i = rng.index(last + 1);
     let next = (i + 1).min(last);
     let taken = draft.processes[i].count;
-    match rng.below(16) {
-        0 => draft.processes[i].kind = rng.pick(&[256, 257, 1 << 31, u32::MAX]),
-        11..=12 => draft.processes[0].kind = rng.pick(&[1, 1, 2]),
-        13..=15 => draft.processes[i].kind = rng.pick(&[1, 2, 2, 2, 3]),
-        1 => draft.processes[i].count = 0,
+    match rng.below(10) {
+        0..=1 => draft.processes[i].count = 0,
         2 => {
             draft.processes[i].first =
                 draft.processes[i]
@@ -277,7 +290,7 @@ fn damage_process(rng: &mut Rng, draft: &mut Draft) {
             draft.processes[i].count =
                 taken.wrapping_add(rng.pick(&[1, u32::MAX, u32::MAX - taken]))
         }
-        4 => draft.processes[last].count += 1,
+        4 => draft.processes[last].count = draft.processes[last].count.wrapping_add(1),
         5 => draft.processes[last].count = draft.processes[last].count.saturating_sub(1),
         6 if next > i => {
             // All sections go to the next process: every sum is right, one count is 0.
@@ -339,11 +352,9 @@ fn damage_section_place(rng: &mut Rng, draft: &mut Draft) {
     }
     let i = rng.index(draft.sections.len());
     let Some(owner) = draft.owner(i) else { return };
-    let process = draft.processes[owner];
-    let first = process.first as usize;
-    let last = (u64::from(process.first) + u64::from(process.count) - 1)
-        .min(draft.sections.len() as u64 - 1) as usize;
-    let range = if owner == 0 { KERNEL } else { USER };
+    let first = draft.processes[owner].first as usize;
+    let last = draft.last_section(owner).unwrap_or(i);
+    let range = draft.section_range(owner);
     match rng.below(10) {
         0..=1 => {
             let va = range.start as u32 - rng.pick(&[0, 0, 1, 4096]);
@@ -364,6 +375,8 @@ fn damage_section_place(rng: &mut Rng, draft: &mut Draft) {
             let va = rng.pick(&[
                 0,
                 0x0fff,
+                0x7ff0_1000,
+                0x7fff_0000,
                 0x7fff_c000,
                 0x8000_0000,
                 0xffbf_ffff,
@@ -380,6 +393,31 @@ fn damage_section_place(rng: &mut Rng, draft: &mut Draft) {
             draft.sections[i].size = rng.pick(&[u32::MAX, wrapped, va.wrapping_neg(), 1 << 31]);
         }
     }
+}
+
+/// 8: a last section at the edge of its process's stack, of any length, or at the edge that four or sixteen pages would have.
+fn damage_by_stack(rng: &mut Rng, draft: &mut Draft) {
+    if draft.processes.len() < 2 || draft.sections.is_empty() {
+        return;
+    }
+    let i = rng.between(1, draft.processes.len() as u64 - 1) as usize;
+    let Some(last) = draft.last_section(i) else {
+        return;
+    };
+    let process = &mut draft.processes[i];
+    if rng.chance(70) {
+        process.set_stack_bits(draft::draw_stack_bits(rng));
+    }
+    let pages = kind_word::stack_pages(process.kind_word, Fault::None);
+    let pages = rng.pick(&[pages, pages, pages, 4, 16]);
+    let end = (kind_word::STACK_END - PAGE * pages) as u32;
+    let section = &mut draft.sections[last];
+    if rng.chance(40) {
+        section.size = rng.pick(&[1, 2, 4095, 4096, 4097]);
+    }
+    let past = rng.pick(&[0, 0, 0, 1, 1, 1, 2, 4096, u32::MAX]);
+    let va = end.wrapping_add(past).wrapping_sub(section.size);
+    draft.move_section(last, va);
 }
 
 /// 9: copied sections that end with flash, or one past it.
@@ -616,7 +654,7 @@ fn damage_ram_pages(rng: &mut Rng, draft: &mut Draft) {
 }
 
 /// Words that lie on some boundary.
-const ODD_WORDS: [u32; 20] = [
+const ODD_WORDS: [u32; 24] = [
     0,
     1,
     2,
@@ -628,9 +666,13 @@ const ODD_WORDS: [u32; 20] = [
     32,
     33,
     64,
+    0x0400,
+    0x0401,
     4095,
     4096,
     0x1000_0000,
+    0x7ffe_ffff,
+    0x7fff_0000,
     0x7fff_bfff,
     0x7fff_c000,
     0x8000_0000,

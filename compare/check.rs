@@ -381,7 +381,7 @@ fn shown(lent: &Memories, found: Found) -> &[u8] {
     walker::part_bytes(ram, flash, walker::part(ram, flash, found, Fault::None))
 }
 
-/// A process at every page where it sees something, at both neighbours, and at random addresses.
+/// A process at every telling page, at both neighbours, and at random addresses.
 fn compare_view(
     boot: &Boot,
     lent: &mut Memories,
@@ -390,9 +390,9 @@ fn compare_view(
     rng: &mut Rng,
     tally: &mut Tally,
 ) -> Result<(), String> {
-    for page in boot.plan.seen_pages(process) {
+    for page in boot.plan.telling_pages(process) {
         for near in [page - 1, page, page + 1] {
-            // A neighbour at which something is seen has its own turn.
+            // A neighbour at which something is seen has its own turn, or is within the stack.
             if near >= 1 << 20 || (near != page && boot.plan.sight(process, near).is_some()) {
                 continue;
             }
@@ -411,24 +411,34 @@ fn compare_view(
         }
     }
     for _ in 0..24 {
-        let address = match rng.below(4) {
-            0 => rng.word(),
-            1 => 0x7fc0_0000 | rng.word() >> 10,
-            2 => 0xffc0_0000 | rng.word() >> 10,
-            _ => rng.pick(&[
-                0,
-                0xfff,
-                0x7fff_bfff,
-                0x7fff_c000,
-                0x7fff_ffff,
-                0x8000_0000,
-                0xfff4_2000,
-                u32::MAX,
-            ]),
-        };
+        let address = draw_address(rng);
         compare_address(boot, lent, process, address, fault, rng, tally)?;
     }
     Ok(())
+}
+
+/// Any address, one in the 4 MiB of the stack or of the kernel, one among those of 255 stack pages, or one at a limit.
+fn draw_address(rng: &mut Rng) -> u32 {
+    match rng.below(5) {
+        0 => rng.word(),
+        1 => 0x7fc0_0000 | rng.word() >> 10,
+        2 => 0xffc0_0000 | rng.word() >> 10,
+        3 => 0x7ff0_0000 | rng.word() >> 12,
+        _ => rng.pick(&[
+            0,
+            0xfff,
+            0x7ff0_0fff,
+            0x7ff0_1000,
+            0x7ffe_ffff,
+            0x7fff_0000,
+            0x7fff_bfff,
+            0x7fff_c000,
+            0x7fff_ffff,
+            0x8000_0000,
+            0xfff4_2000,
+            u32::MAX,
+        ]),
+    }
 }
 
 /// Every one of the 2^20 virtual pages of one process.

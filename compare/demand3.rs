@@ -132,13 +132,13 @@ pub fn compare(
         boot: new_boot,
     };
     for process in boot.plan.processes() {
-        // Every page at which something is seen on either, with its neighbours; all pages of some
-        // 4 MiB blocks; and some pages anywhere.
-        let seen = boot
+        // The telling pages of either, with their neighbours; all pages of some 4 MiB blocks; and some pages anywhere.
+        let telling = boot
             .plan
-            .seen_pages(process)
-            .chain(new_boot.plan.seen_pages(process));
-        let mut pages: BTreeSet<u32> = seen.flat_map(|page| [page - 1, page, page + 1]).collect();
+            .telling_pages(process)
+            .chain(new_boot.plan.telling_pages(process));
+        let near = telling.flat_map(|page| [page - 1, page, page + 1]);
+        let mut pages: BTreeSet<u32> = near.collect();
         let whole: BTreeSet<u32> = pages
             .iter()
             .map(|page| page >> 10)

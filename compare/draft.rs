@@ -1,16 +1,28 @@
 //! Boot blocks in the making: records that can be changed one by one, and valid boards of all sizes.
 
 use crate::images;
+use crate::kind_word;
 use crate::memory::{Area, Memory};
 use crate::rng::Rng;
-use crate::rules::{self, Board, Fault, Plan, Process, Region, Section, EXECUTABLE, NOCOPY, PAGE};
+use crate::rules::{Board, Fault, Plan, Process, Region, Section, EXECUTABLE, NOCOPY, PAGE};
+use std::ops::Range;
 
 #[derive(Clone, Copy)]
 pub struct ProcessRecord {
     pub entry: u32,
     pub first: u32,
     pub count: u32,
-    pub kind: u32,
+    pub kind_word: u32,
+}
+
+impl ProcessRecord {
+    pub fn words(&self) -> [u32; 4] {
+        [self.entry, self.first, self.count, self.kind_word]
+    }
+
+    pub fn set_stack_bits(&mut self, bits: u32) {
+        self.kind_word = self.kind_word & !0xff00 | bits << 8;
+    }
 }
 
 #[derive(Clone, Copy)]
@@ -99,11 +111,7 @@ impl Draft {
         for (index, value) in &self.header {
             words[*index] = *value;
         }
-        words.extend(
-            self.processes
-                .iter()
-                .flat_map(|r| [r.entry, r.first, r.count, r.kind]),
-        );
+        words.extend(self.processes.iter().flat_map(ProcessRecord::words));
         words.extend(
             self.sections
                 .iter()
@@ -122,7 +130,7 @@ impl Draft {
         let process = |r: &ProcessRecord| Process {
             entry: r.entry,
             sections: r.first as usize..(r.first + r.count) as usize,
-            kind: r.kind,
+            kind_word: r.kind_word,
         };
         let section = |r: &SectionRecord| Section {
             va: r.va.into(),
@@ -174,6 +182,20 @@ impl Draft {
             let first = u64::from(r.first);
             first <= section && section < first + u64::from(r.count)
         })
+    }
+
+    /// The last section of a process, as far as there are so many.
+    pub fn last_section(&self, process: usize) -> Option<usize> {
+        let record = self.processes[process];
+        let end = u64::from(record.first) + u64::from(record.count);
+        end.min(self.sections.len() as u64)
+            .checked_sub(1)
+            .map(|last| last as usize)
+    }
+
+    /// Where the sections of a process may lie.
+    pub fn section_range(&self, process: usize) -> Range<u64> {
+        kind_word::section_range(process, self.processes[process].kind_word, Fault::None)
     }
 
     /// Moves a section, and its process's entry point with it if that lies in it.
@@ -237,15 +259,17 @@ fn draw_size(rng: &mut Rng) -> Size {
 pub fn valid(rng: &mut Rng, room: u64) -> Draft {
     let size = draw_size(rng);
     let mut draft = Draft::default();
+    let stacks = rng.pick(&[0, 100, 60, 60]);
     for (i, count) in draw_counts(rng, &size).into_iter().enumerate() {
-        let first = draft.sections.len() as u32;
+        let bits = draw_stack_bits(rng);
+        let has_bits = i > 0 && rng.chance(stacks);
         draft.processes.push(ProcessRecord {
             entry: 0,
-            first,
+            first: draft.sections.len() as u32,
             count,
-            kind: 0,
+            kind_word: if has_bits { bits << 8 } else { 0 },
         });
-        let range = if i == 0 { rules::KERNEL } else { rules::USER };
+        let range = draft.section_range(i);
         place_sections(rng, &mut draft.sections, range, count, size.section_pages);
     }
     draw_regions(rng, &mut draft, size.regions);
@@ -270,6 +294,30 @@ pub fn valid(rng: &mut Rng, room: u64) -> Draft {
     draft
 }
 
+/// Bits 8 to 15 of a kind word: the default, the least, those that 02 names, the most, and any.
+pub fn draw_stack_bits(rng: &mut Rng) -> u32 {
+    let any = rng.below(256) as u32;
+    rng.pick(&[0, 0, 1, 1, 4, 4, 4, 16, 16, 255, 255, any])
+}
+
+/// A kind word with any of its bits set or turned, alone or with others; and such as are just none too many.
+pub fn draw_kind_word(rng: &mut Rng, before: u32) -> u32 {
+    let bit = 1 << rng.below(32);
+    let stack = draw_stack_bits(rng) << 8;
+    let kind = rng.below(256) as u32;
+    match rng.below(16) {
+        0..=4 => bit,
+        5..=6 => before ^ bit,
+        7 => bit | 1 << rng.below(32),
+        8 => stack | bit,
+        9..=10 => stack | rng.pick(&[1, 2, 2, 3, 128, 255, kind]),
+        11..=12 => stack | rng.pick(&[0, 1]),
+        13 => rng.pick(&[1, 2, 3, 255, kind]),
+        14 => rng.pick(&[0xff, 0xff00, 0xff01, 0xffff, 0xffff_0000, u32::MAX]),
+        _ => rng.word(),
+    }
+}
+
 /// How many sections each process has.
 fn draw_counts(rng: &mut Rng, size: &Size) -> Vec<u32> {
     let p = rng.between(size.processes.0, size.processes.1);
@@ -286,7 +334,7 @@ fn draw_counts(rng: &mut Rng, size: &Size) -> Vec<u32> {
 fn place_sections(
     rng: &mut Rng,
     sections: &mut Vec<SectionRecord>,
-    range: std::ops::Range<u64>,
+    range: Range<u64>,
     count: u32,
     most: u64,
 ) {
@@ -380,12 +428,8 @@ fn stretch(rng: &mut Rng, draft: &mut Draft, target: u64) {
         }
         let process = rng.index(draft.processes.len());
         let record = draft.processes[process];
+        let high = draft.section_range(process).end / PAGE;
         let section = &mut draft.sections[(record.first + record.count - 1) as usize];
-        let high = if process == 0 {
-            rules::KERNEL.end
-        } else {
-            rules::USER.end
-        } / PAGE;
         if exact < target {
             let room = high - 1 - section.last_page();
             section.size += ((target - exact).min(room) * PAGE) as u32;
@@ -436,12 +480,12 @@ fn draw_entries(rng: &mut Rng, draft: &mut Draft) {
     }
 }
 
-/// Kinds of the user processes: all 0, all 1, or any.
+/// Kinds of the user processes, beside their stack bits: all 0, all 1, or any.
 fn draw_kinds(rng: &mut Rng, draft: &mut Draft, straight: bool) {
     let percent = rng.pick(&[0, 100, 60, 60]);
     for i in 1..draft.processes.len() {
         let process = &mut draft.processes[i];
-        process.kind = u32::from(straight || rng.chance(percent));
+        process.kind_word |= u32::from(straight || rng.chance(percent));
         let sections = process.first as usize..(process.first + process.count) as usize;
         for section in draft.sections[sections].iter_mut().filter(|_| straight) {
             section.flags = rng.pick(&[0, 0, EXECUTABLE, EXECUTABLE, 1, 2]);

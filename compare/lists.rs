@@ -1,7 +1,7 @@
 //! The generated lists for the block writer: counts at and around their bounds, lists that are not whole records, every cause of 6, and
 //! buffers of all lengths.
 
-use crate::draft::ProcessRecord;
+use crate::draft::{self, ProcessRecord};
 use crate::rng::Rng;
 use crate::rules;
 use crate::writer::{counts, Job, Lists, RECORD_WORDS};
@@ -17,9 +17,7 @@ pub fn generate(rng: &mut Rng) -> Job {
     }
     let mut words = |count: u64| (0..count).map(|_| rng.word()).collect::<Vec<u32>>();
     let (sections, regions) = (words(4 * s), words(2 * r));
-    let processes = processes
-        .iter()
-        .flat_map(|r| [r.entry, r.first, r.count, r.kind]);
+    let processes = processes.iter().flat_map(ProcessRecord::words);
     let mut lists = [processes.collect(), sections, regions];
     if rng.chance(8) {
         part_record(rng, &mut lists);
@@ -60,7 +58,7 @@ fn sound_processes(rng: &mut Rng, p: u64, s: u64) -> Vec<ProcessRecord> {
             entry: rng.word(),
             first: 0,
             count: 1,
-            kind: u32::from(i > 0 && rng.chance(40)),
+            kind_word: if i > 0 { sound_kind_word(rng) } else { 0 },
         })
         .collect();
     for _ in p..if p == 0 { 0 } else { s } {
@@ -69,6 +67,13 @@ fn sound_processes(rng: &mut Rng, p: u64, s: u64) -> Vec<ProcessRecord> {
     }
     follow(&mut records);
     records
+}
+
+/// Kind 0 or 1 of a user process, with any stack bits.
+fn sound_kind_word(rng: &mut Rng) -> u32 {
+    let bits = draft::draw_stack_bits(rng);
+    let bits = rng.pick(&[0, bits]);
+    u32::from(rng.chance(40)) | bits << 8
 }
 
 /// Every first section is the sum, modulo 2^32, of the counts before it.
@@ -90,20 +95,19 @@ fn damage(rng: &mut Rng, records: &mut [ProcessRecord], s: &mut u64) {
     let bit = 1 << rng.below(32);
     let off = rng.pick(&[1, u32::MAX, bit]);
     let record = &mut records[i];
-    match rng.below(11) {
-        0..=1 => record.kind = bit,
-        2 => record.kind = rng.pick(&[u32::MAX, 256, 257, 0, 1, 1, 2, 3]),
-        3 => record.count = 0,
-        4 => record.first = rng.pick(&[u32::MAX, 0, record.first.wrapping_add(off)]),
-        5 => record.count = rng.pick(&[u32::MAX, record.count.wrapping_add(off)]),
-        6 => {
+    match rng.below(13) {
+        0..=4 => record.kind_word = draft::draw_kind_word(rng, record.kind_word),
+        5 => record.count = 0,
+        6 => record.first = rng.pick(&[u32::MAX, 0, record.first.wrapping_add(off)]),
+        7 => record.count = rng.pick(&[u32::MAX, record.count.wrapping_add(off)]),
+        8 => {
             // The same, with all first sections in step: the sum alone is wrong.
             record.count = rng.pick(&[0, u32::MAX, record.count.wrapping_add(off)]);
             follow(records);
         }
-        7 => move_section(rng, records, i),
-        8 => wrap_sums(rng, records, i),
-        9 => *s += 1,
+        9 => move_section(rng, records, i),
+        10 => wrap_sums(rng, records, i),
+        11 => *s += 1,
         _ => *s = s.saturating_sub(1),
     }
 }

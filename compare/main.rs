@@ -13,6 +13,7 @@ mod demand3;
 mod draft;
 mod ffi;
 mod images;
+mod kind_word;
 mod lists;
 mod memory;
 mod met;
@@ -36,7 +37,7 @@ const CASES: u64 = 20_000;
 /// From how many cases on each kind of case (met.rs) must be met.
 const KIND_CASES: u64 = 5_000;
 /// Within how many cases a fault must be found.
-const FAULT_CASES: u64 = 500;
+const FAULT_CASES: u64 = 1_000;
 
 struct Options {
     cases: u64,
@@ -113,8 +114,11 @@ fn tell(tally: &Tally) {
         println!("{number:6}  {count:5}  {:14}", numbers.later[number]);
     }
     println!("     met  kind of case");
-    for (name, count) in met::NAMES.iter().zip(&tally.met.0) {
+    for (name, count) in met::NAMES.iter().zip(&tally.met.kinds) {
         println!("{count:8}  {name}");
+    }
+    for (whose, bits) in ["the kernel's", "a user's"].iter().zip(tally.met.bits) {
+        println!("{whose} kind word with one bit, from bit 0 on: {bits:?}");
     }
     println!("walks compared: {}, pages: {}", tally.walks, tally.pages);
     println!(

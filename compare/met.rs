@@ -1,12 +1,17 @@
-//! The kinds of case that 02's A6 is about, and how often a run has met each.
+//! The kinds of case that 02's A6 and A7 are about, and how often a run has met each.
 
 use crate::cases::Case;
+use crate::kind_word;
 use crate::memory::Area;
-use crate::rules::{self, Board, Fault, Outcome, Plan, PAGE};
+use crate::rules::{self, Board, Fault, Outcome, Plan, Refusal, PAGE};
 use crate::straight::{self, Cause};
-use std::collections::BTreeMap;
+use std::collections::{BTreeMap, BTreeSet};
+use std::ops::Range;
 
 const END: u64 = 1 << 32;
+/// Where sixteen pages of stack begin, and where four do.
+const DEFAULT_STACK: u64 = 0x7fff_0000;
+const OLD_STACK: u64 = 0x7fff_c000;
 
 macro_rules! kinds {
     ($($kind:ident $name:literal)*) => {
@@ -17,6 +22,35 @@ macro_rules! kinds {
 }
 
 kinds! {
+    // Kind words; there is no other cause of 6 at the record.
+    KernelOfOne "6 for kind 1 on the kernel"
+    KernelWithStack "6 for stack bits alone on the kernel"
+    KernelAbove15 "6 for bits above 15 alone on the kernel"
+    UserOfTwo "6 for kind 2 on a user process"
+    UserOfMore "6 for kind 3 and up on a user process"
+    UserOfMoreWithStack "6 for kind 2 and up with stack bits on a user process"
+    UserAbove15 "6 for bits above 15 alone on a user process"
+    UserAbove15WithStack "6 for bits above 15 with stack bits on a user process"
+    OneWithStack "boot with kind 1 and stack bits"
+    ZeroWithStack "boot with kind 0 and stack bits"
+    // A section that ends with the last byte below its process's stack, and one that ends one byte further; by the stack bits.
+    BelowDefault "boot with a section up to the stack, bits 0"
+    BelowOne "boot with a section up to the stack, bits 1"
+    BelowFour "boot with a section up to the stack, bits 4"
+    BelowSixteen "boot with a section up to the stack, bits 16"
+    BelowMost "boot with a section up to the stack, bits 255"
+    BelowOther "boot with a section up to the stack, other bits"
+    IntoDefault "8 for one byte of the stack alone, bits 0"
+    IntoOne "8 for one byte of the stack alone, bits 1"
+    IntoFour "8 for one byte of the stack alone, bits 4"
+    IntoSixteen "8 for one byte of the stack alone, bits 16"
+    IntoMost "8 for one byte of the stack alone, bits 255"
+    IntoOther "8 for one byte of the stack alone, other bits"
+    // What sixteen pages change.
+    OldBlock "8 for bits 0 that four pages would spare"
+    OldLimit "8 for bits 0 of a section up to 0x7FFFBFFF"
+    OnDefault "boot with a section on a page of the default stack"
+    OnOldStack "boot with a section on a page of the last four"
     // Sections of kind 1 on boards that boot or draw 12; "alone": there is no other cause.
     Straight "section used from flash"
     StraightPages "section used from flash, over more pages than one"
@@ -58,11 +92,13 @@ kinds! {
     AfterPart "region after a last page that is not whole in the image"
     BelowFlash "region that touches flash from below"
     AroundEmpty "empty image inside a region"
-    // Kinds of process.
-    KernelOfOne "6 for kind 1 on the kernel"
-    UserOfTwo "6 for kind 2 on a user process"
-    UserOfMore "6 for kind 3 and up on a user process"
+    // Kinds and stacks of processes.
     NineOfOne "9 in a process of kind 1"
+    LaterAbove15 "6 for bits above 15 after record 1"
+    LaterInto "8 for one byte of the stack alone, of process 3 and up"
+    StacksDiffer "boot with stacks of three lengths and more"
+    StraightBelow "section used from flash, up to the stack"
+    StraightWithStack "section used from flash, of a process with stack bits"
     // What rigpollen_page answers with.
     PageInRam "page in RAM"
     PageInFlash "page in flash"
@@ -78,25 +114,61 @@ kinds! {
     PairRefused "second RAM that draws 13"
 }
 
-pub struct Met(pub Vec<u64>);
+/// The kinds that also a file of cases (case_file.rs) must meet.
+pub const OF_A_FILE: Range<usize> = 0..Kind::ByLastByte as usize;
+
+/// Kinds by the stack bits.
+const BELOW: [(u32, Kind); 5] = [
+    (0, Kind::BelowDefault),
+    (1, Kind::BelowOne),
+    (4, Kind::BelowFour),
+    (16, Kind::BelowSixteen),
+    (255, Kind::BelowMost),
+];
+const INTO: [(u32, Kind); 5] = [
+    (0, Kind::IntoDefault),
+    (1, Kind::IntoOne),
+    (4, Kind::IntoFour),
+    (16, Kind::IntoSixteen),
+    (255, Kind::IntoMost),
+];
+
+fn by_bits(kinds: [(u32, Kind); 5], other: Kind, bits: u32) -> Kind {
+    let known = kinds.into_iter().find(|(known, _)| *known == bits);
+    known.map_or(other, |(_, kind)| kind)
+}
+
+pub struct Met {
+    pub kinds: Vec<u64>,
+    /// Kind words of one bit that decided, by bit: the kernel's, and those of users.
+    pub bits: [[u64; 32]; 2],
+}
 
 impl Default for Met {
     fn default() -> Met {
-        Met(vec![0; NAMES.len()])
+        Met {
+            kinds: vec![0; NAMES.len()],
+            bits: [[0; 32]; 2],
+        }
     }
 }
 
 impl Met {
     pub fn count(&mut self, kind: Kind, holds: bool) {
-        self.0[kind as usize] += u64::from(holds);
+        self.kinds[kind as usize] += u64::from(holds);
     }
 
-    /// The first kind of these that was never met.
-    pub fn missing(&self, kinds: std::ops::Range<usize>) -> Option<String> {
-        kinds
-            .into_iter()
-            .find(|&kind| self.0[kind] == 0)
-            .map(|kind| format!("a {}", NAMES[kind]))
+    /// The first kind of these that was never met, or the first bit, if any kind is asked for.
+    pub fn missing(&self, mut kinds: Range<usize>) -> Option<String> {
+        let whose = ["the kernel's", "a user's"].into_iter().zip(&self.bits);
+        let bit = whose
+            .filter(|_| !kinds.is_empty())
+            .find_map(|(whose, bits)| {
+                let bit = bits.iter().position(|&count| count == 0)?;
+                Some(format!("{whose} kind word with bit {bit} alone"))
+            });
+        let kind = kinds.find(|&kind| self.kinds[kind] == 0);
+        kind.map(|kind| format!("a {}", NAMES[kind])).or(bit)
     }
 
     /// What a case is, by its answer.
@@ -105,8 +177,12 @@ impl Met {
         let (flash, ram) = (case.memory_of_flash().area(), case.memory_of_ram().area());
         self.place(flash, ram, number, case.block.len());
         match (number, rules::read_block(&case.block)) {
-            (6, _) => self.kind(&case.block, want.answer[1]),
+            (6, _) => self.kind_word(&case.block, want.answer[1]),
+            (8, Ok(board)) => self.in_stack(&board, want.answer[1] as usize),
             (0 | 9 | 11 | 12, Ok(board)) => {
+                if number == 0 {
+                    self.stacks(&board);
+                }
                 self.nine(&board, want);
                 self.regions(&board, flash, ram, number);
                 if number % 12 == 0 {
@@ -147,12 +223,84 @@ impl Met {
         }
     }
 
-    fn kind(&mut self, block: &[u8], place: u32) {
+    /// A record refused with 6.
+    fn kind_word(&mut self, block: &[u8], place: u32) {
         let at = 32 + 16 * place as usize + 12;
-        let kind = u32::from_le_bytes([block[at], block[at + 1], block[at + 2], block[at + 3]]);
-        self.count(Kind::KernelOfOne, place == 0 && kind == 1);
-        self.count(Kind::UserOfTwo, place > 0 && kind == 2);
-        self.count(Kind::UserOfMore, place > 0 && kind > 2);
+        let word = u32::from_le_bytes([block[at], block[at + 1], block[at + 2], block[at + 3]]);
+        let mut sound = block.to_vec();
+        sound[at..at + 4].fill(0);
+        if rules::read_block(&sound).is_err_and(|Refusal(_, record)| record.place == place) {
+            return;
+        }
+        self.bit(place, word);
+        let (kind, stack, above) = (word & 0xff, word & 0xff00, word & 0xffff_0000);
+        if place == 0 {
+            self.count(Kind::KernelOfOne, word == 1);
+            self.count(Kind::KernelWithStack, word == stack);
+            self.count(Kind::KernelAbove15, word == above);
+            return;
+        }
+        self.count(Kind::UserOfTwo, above == 0 && kind == 2);
+        self.count(Kind::UserOfMore, above == 0 && kind > 2);
+        self.count(Kind::UserOfMoreWithStack, above == 0 && stack != 0);
+        self.count(Kind::UserAbove15, kind <= 1 && stack == 0);
+        self.count(Kind::UserAbove15WithStack, kind <= 1 && stack != 0);
+        self.count(Kind::LaterAbove15, kind <= 1 && place > 1);
+    }
+
+    /// A kind word of which one bit is set, at a process record.
+    fn bit(&mut self, place: u32, word: u32) {
+        if word.is_power_of_two() {
+            self.bits[usize::from(place > 0)][word.trailing_zeros() as usize] += 1;
+        }
+    }
+
+    /// The stacks of a board that boots.
+    fn stacks(&mut self, board: &Board) {
+        let mut lengths = BTreeSet::new();
+        for (place, process) in (1..).zip(&board.processes[1..]) {
+            let word = process.kind_word;
+            let bits = kind_word::stack_bits(word);
+            let stack = kind_word::stack(word, Fault::None);
+            let ends = board.sections[process.sections.clone()].iter();
+            let end = ends.map(|section| section.va + section.size).max();
+            let below = by_bits(BELOW, Kind::BelowOther, bits);
+            let of_one = kind_word::kind(word) == 1;
+            self.bit(place, word);
+            self.count(below, end == Some(stack.start));
+            self.count(Kind::OnDefault, end > Some(DEFAULT_STACK));
+            self.count(Kind::OnOldStack, end > Some(OLD_STACK));
+            self.count(Kind::OneWithStack, of_one && bits != 0);
+            self.count(Kind::ZeroWithStack, !of_one && bits != 0);
+            lengths.insert(stack.start);
+        }
+        self.count(Kind::StacksDiffer, lengths.len() > 2);
+    }
+
+    /// A section refused with 8, of a user process.
+    fn in_stack(&mut self, board: &Board, place: usize) {
+        let mut owners = board.processes.iter();
+        let Some(owner) = owners.position(|process| process.sections.contains(&place)) else {
+            return;
+        };
+        let section = &board.sections[place];
+        let (end, word) = (section.va + section.size, board.processes[owner].kind_word);
+        let bits = kind_word::stack_bits(word);
+        let spared = |change: &dyn Fn(&mut Board)| {
+            let mut board = board.clone();
+            change(&mut board);
+            let refused = rules::check_sections(&board, END, Fault::None).err();
+            refused.map_or(true, |Refusal(_, record)| record.place as usize != place)
+        };
+        let one_byte = owner > 0
+            && end == kind_word::stack(word, Fault::None).start + 1
+            && (section.size == 1 || spared(&|board| board.sections[place].size -= 1));
+        self.count(by_bits(INTO, Kind::IntoOther, bits), one_byte);
+        self.count(Kind::LaterInto, one_byte && owner > 1);
+        let by_four =
+            owner > 0 && bits == 0 && spared(&|board| board.processes[owner].kind_word |= 4 << 8);
+        self.count(Kind::OldBlock, by_four);
+        self.count(Kind::OldLimit, by_four && end == OLD_STACK);
     }
 
     fn nine(&mut self, board: &Board, want: &Outcome) {
@@ -161,7 +309,7 @@ impl Met {
         let owner = owner.find(|process| process.sections.contains(&(place as usize)));
         self.count(
             Kind::NineOfOne,
-            number == 9 && owner.is_some_and(|process| process.kind == 1),
+            number == 9 && owner.is_some_and(|process| kind_word::kind(process.kind_word) == 1),
         );
     }
 
@@ -201,6 +349,7 @@ impl Met {
                 self.lone_byte(section, &causes, &case.flash);
                 let (from, to) = straight::page_bytes(section);
                 if causes.is_empty() {
+                    self.above_straight(section, process.kind_word);
                     for page in from / PAGE..to / PAGE {
                         let other = reached.insert(page, number);
                         self.count(Kind::TwoProcesses, other.is_some_and(|q| q != number));
@@ -219,6 +368,14 @@ impl Met {
                 self.count(Kind::BySection, alone && beside);
             }
         }
+    }
+
+    /// The stack above a section that is used from flash.
+    fn above_straight(&mut self, section: &rules::Section, word: u32) {
+        let stack = kind_word::stack(word, Fault::None);
+        let up_to = section.va + section.size == stack.start;
+        self.count(Kind::StraightBelow, up_to);
+        self.count(Kind::StraightWithStack, kind_word::stack_bits(word) != 0);
     }
 
     fn section(&mut self, section: &rules::Section, causes: &[Cause], flash_len: u64) {

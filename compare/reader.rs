@@ -165,8 +165,8 @@ pub fn compare_spoilt(
     let last = *boot.plan.processes().end();
     for _ in 0..rng.between(1, 8) {
         let process = rng.between(1, last.into()) as u32;
-        let seen: Vec<u32> = boot.plan.seen_pages(process).collect();
-        let page = rng.pick(&seen);
+        let telling: Vec<u32> = boot.plan.telling_pages(process).collect();
+        let page = rng.pick(&telling);
         let root = boot.plan.root(process);
         // The entry in the root, or the one in the leaf table that the root's entry points to.
         let mut at = (u64::from(root) - near) * PAGE + u64::from(page >> 10) * 4;

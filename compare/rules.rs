@@ -4,6 +4,7 @@
 //! (a map from virtual page to reserved or to rights and a use), then the uses that take a page of RAM are
 //! put in 01's order, then the bytes of each are worked out, and last they are laid over RAM.
 
+use crate::kind_word;
 use crate::memory::{Area, Memory};
 use crate::straight;
 use std::collections::{BTreeMap, BTreeSet};
@@ -16,10 +17,8 @@ pub const NOCOPY: u32 = 1;
 pub const WRITABLE: u32 = 2;
 pub const EXECUTABLE: u32 = 4;
 
-/// Where sections may lie, and what the top of the address space holds.
-pub const USER: Range<u64> = 0x0000_1000..0x7fff_c000;
+/// Where the kernel's sections may lie, and what the top of the address space holds.
 pub const KERNEL: Range<u64> = 0xffc0_0000..0xfff0_0000;
-const STACK_PAGES: Range<u32> = 0x7fffc..0x80000;
 const BLOCK_COPY_PAGE: u32 = 0xfff00;
 pub const TRACKER_PAGE: u32 = 0xfff40;
 pub const LIST_PAGE: u32 = 0xfff80;
@@ -39,7 +38,7 @@ fn page_flags(rights: u32) -> u32 {
 }
 
 /// Faults that can be switched on here to try the comparison: 01's five (the third has two halves), those of the block writer, those of
-/// a record's offset, and those of sections used straight from flash.
+/// a record's offset, those of sections used straight from flash, and those of the stack's pages.
 #[derive(Clone, Copy, PartialEq, Eq)]
 pub enum Fault {
     None,
@@ -65,9 +64,11 @@ pub enum Fault {
     EmptyShares,
     LastFlashPageFree,
     FlashFirst,
+    SixteenAlways,
+    RangePageHigher,
 }
 
-pub const FAULTS: [(Fault, &str); 22] = [
+pub const FAULTS: [(Fault, &str); 24] = [
     (
         Fault::PartBeforeKept,
         "1 the part of a page before the section is not cleared",
@@ -138,6 +139,14 @@ pub const FAULTS: [(Fault, &str); 22] = [
         "A6 a region may be on the page in which the image ends",
     ),
     (Fault::FlashFirst, "A6 flash goes first if both hold a page"),
+    (
+        Fault::SixteenAlways,
+        "A7 every user process has sixteen stack pages",
+    ),
+    (
+        Fault::RangePageHigher,
+        "A7 the range for sections ends a page higher than the stack",
+    ),
 ];
 
 #[derive(Clone)]
@@ -198,7 +207,7 @@ impl Section {
 pub struct Process {
     pub entry: u32,
     pub sections: Range<usize>,
-    pub kind: u32,
+    pub kind_word: u32,
 }
 
 #[derive(Clone)]
@@ -320,7 +329,7 @@ pub fn read_board(block: &[u8], flash: Area, ram: Area, fault: Fault) -> Result<
         refuse_if(cause, number, Record::NONE)?;
     }
     let board = read_block(block)?;
-    check_sections(&board, flash.len)?;
+    check_sections(&board, flash.len, fault)?;
     check_entries(&board)?;
     check_regions(&board, flash, ram, fault)?;
     Ok(board)
@@ -370,10 +379,9 @@ pub fn read_processes(block: &[u8], p: usize, s: usize) -> Result<Vec<Process>, 
     let mut sum = 0u64;
     for i in 0..p {
         let record = Record::nth(i, 32, 16);
-        let [entry, first, count, kind] = words::<4>(block, record.offset as usize);
+        let [entry, first, count, kind_word] = words::<4>(block, record.offset as usize);
         let after = sum + u64::from(count);
-        // "6 is now for kind 2 and up, or kind 1 on the kernel."
-        let wrong = kind > u32::from(i > 0)
+        let wrong = kind_word::draws_6(i, kind_word)
             || count == 0
             || u64::from(first) != sum
             || after > s as u64
@@ -382,7 +390,7 @@ pub fn read_processes(block: &[u8], p: usize, s: usize) -> Result<Vec<Process>, 
         processes.push(Process {
             entry,
             sections: sum as usize..after as usize,
-            kind,
+            kind_word,
         });
         sum = after;
     }
@@ -390,10 +398,10 @@ pub fn read_processes(block: &[u8], p: usize, s: usize) -> Result<Vec<Process>, 
 }
 
 /// Refusals 7, 8 and 9, all three for one section before the next.
-fn check_sections(board: &Board, flash_len: u64) -> Result<(), Refusal> {
+pub fn check_sections(board: &Board, flash_len: u64, fault: Fault) -> Result<(), Refusal> {
     let [_, list, ..] = board.tight();
     for (owner, process) in board.processes.iter().enumerate() {
-        let range = if owner == 0 { KERNEL } else { USER };
+        let range = kind_word::section_range(owner, process.kind_word, fault);
         let mut previous: Option<&Section> = None;
         for i in process.sections.clone() {
             let section = &board.sections[i];
@@ -496,7 +504,8 @@ pub type View = BTreeMap<u32, Sight>;
 /// The section pages of a process, and the reserved stack of a user process.
 fn own_view(board: &Board, process: u32, fault: Fault) -> View {
     let mut view = View::new();
-    for section in board.processes[process as usize - 1].sections.clone() {
+    let owner = &board.processes[process as usize - 1];
+    for section in owner.sections.clone() {
         let record = &board.sections[section];
         let rights = READ
             | if record.has(WRITABLE) { WRITE } else { 0 }
@@ -517,7 +526,9 @@ fn own_view(board: &Board, process: u32, fault: Fault) -> View {
         }
     }
     if process > 1 {
-        view.extend(STACK_PAGES.map(|page| (page, Sight::Reserved)));
+        let stack = kind_word::stack(owner.kind_word, fault);
+        let pages = (stack.start / PAGE) as u32..(stack.end / PAGE) as u32;
+        view.extend(pages.map(|page| (page, Sight::Reserved)));
     }
     view
 }
@@ -711,12 +722,15 @@ impl Plan {
         self.view_of(process, page).get(&page).copied()
     }
 
-    /// Every virtual page at which the process sees anything, rising.
-    pub fn seen_pages(&self, process: u32) -> impl Iterator<Item = u32> + '_ {
-        self.own[process as usize - 1]
-            .keys()
+    /// Every virtual page at which the process sees anything, rising, but of its stack only the two pages at either end.
+    pub fn telling_pages(&self, process: u32) -> impl Iterator<Item = u32> + '_ {
+        let own = &self.own[process as usize - 1];
+        let is_reserved = |page: u32| matches!(own.get(&page), Some(Sight::Reserved));
+        let inner = move |page: u32| is_reserved(page.wrapping_sub(2)) && is_reserved(page + 2);
+        own.keys()
             .chain(self.kernel.keys())
             .copied()
+            .filter(move |&page| !inner(page))
     }
 
     /// The RAM page of a use: after the top four, downwards.

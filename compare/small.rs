@@ -1,4 +1,4 @@
-//! 01's small board: its cases P1 to P12 are the first cases of a run, and its figures are what the
+//! 01's small board: its cases P1 to P12 and those of 02's A7 are the first cases of a run, and its figures are what the
 //! second program itself is held against before it is used. So are figures of a board with a section in flash.
 
 use crate::draft::{Draft, ProcessRecord, RegionRecord, SectionRecord};
@@ -7,7 +7,7 @@ use crate::rules::{self, Fault, Outcome, PAGE};
 use crate::writer;
 
 pub struct Marked {
-    pub name: &'static str,
+    pub name: String,
     pub draft: Draft,
     /// Number, place and free pages that 01 gives, and 02's (A5) offset: process record i is at byte 32 + 16i of this block, section
     /// record n at 64 + 16n, region record i at 112 + 8i.
@@ -27,13 +27,13 @@ fn board() -> Draft {
                 entry: 0xffc0_0010,
                 first: 0,
                 count: 1,
-                kind: 0,
+                kind_word: 0,
             },
             ProcessRecord {
                 entry: 0x0001_0020,
                 first: 1,
                 count: 2,
-                kind: 0,
+                kind_word: 0,
             },
         ],
         sections: vec![
@@ -53,8 +53,21 @@ fn board() -> Draft {
     }
 }
 
-/// P1 to P12, of which the last has two halves.
+/// The last of 01's twelve has two halves.
+const P_CASES: u64 = 13;
+
+/// P1 to P12, then A7's: those of the stack's edges, and every bit of the kernel's kind word and of process 2's.
 pub fn marked(number: u64) -> Option<Marked> {
+    let Some(after) = number.checked_sub(P_CASES) else {
+        return p_case(number);
+    };
+    match STACK_FIGURES.get(after as usize) {
+        Some(figures) => Some(stack_case(figures)),
+        None => bit_case(after - STACK_FIGURES.len() as u64),
+    }
+}
+
+fn p_case(number: u64) -> Option<Marked> {
     let mut draft = board();
     let (name, expected) = match number {
         0 => ("P1", [0, 0, 1, 0]),
@@ -90,11 +103,14 @@ pub fn marked(number: u64) -> Option<Marked> {
             draft.sections[2].va = 0x0001_1000;
             ("P9", [0, 0, 1, 0])
         }
+        // "P10 and P11 now carry four in process 2's bits."
         9 => {
+            draft.processes[1].kind_word = 0x0400;
             draft.sections[2].va = 0x7fff_b000;
             ("P10", [0, 0, 1, 0])
         }
         10 => {
+            draft.processes[1].kind_word = 0x0400;
             draft.sections[2].va = 0x7fff_b001;
             ("P11", [8, 2, 0, 96])
         }
@@ -109,7 +125,93 @@ pub fn marked(number: u64) -> Option<Marked> {
         _ => return None,
     };
     Some(Marked {
-        name,
+        name: name.to_string(),
+        draft,
+        expected,
+    })
+}
+
+/// The kernel's and process 2's kind word, B's address (it has 4,096 bytes), and number, place, free pages and offset.
+type StackFigures = ([u32; 2], u32, [u32; 4]);
+
+const BOOTS: [u32; 4] = [0, 0, 1, 0];
+const B_REFUSED: [u32; 4] = [8, 2, 0, 96];
+const KERNEL_REFUSED: [u32; 4] = [6, 0, 0, 32];
+const PROCESS_2_REFUSED: [u32; 4] = [6, 1, 0, 48];
+
+/// B up to the last byte below the stack and one byte further, with kind 0 and kind 1; B where four, fifteen or sixteen pages decide; and
+/// kind words with more bits than one.
+const STACK_FIGURES: [StackFigures; 42] = [
+    ([0, 0x0000], 0x7ffe_f000, BOOTS),
+    ([0, 0x0000], 0x7ffe_f001, B_REFUSED),
+    ([0, 0x0001], 0x7ffe_f000, BOOTS),
+    ([0, 0x0001], 0x7ffe_f001, B_REFUSED),
+    ([0, 0x0100], 0x7fff_e000, BOOTS),
+    ([0, 0x0100], 0x7fff_e001, B_REFUSED),
+    ([0, 0x0101], 0x7fff_e000, BOOTS),
+    ([0, 0x0101], 0x7fff_e001, B_REFUSED),
+    ([0, 0x0401], 0x7fff_b000, BOOTS),
+    ([0, 0x0401], 0x7fff_b001, B_REFUSED),
+    ([0, 0x1000], 0x7ffe_f000, BOOTS),
+    ([0, 0x1000], 0x7ffe_f001, B_REFUSED),
+    ([0, 0x1001], 0x7ffe_f000, BOOTS),
+    ([0, 0x1001], 0x7ffe_f001, B_REFUSED),
+    ([0, 0xff00], 0x7ff0_0000, BOOTS),
+    ([0, 0xff00], 0x7ff0_0001, B_REFUSED),
+    ([0, 0xff01], 0x7ff0_0000, BOOTS),
+    ([0, 0xff01], 0x7ff0_0001, B_REFUSED),
+    ([0, 0x0000], 0x7fff_b000, B_REFUSED),
+    ([0, 0x0000], 0x7fff_0000, B_REFUSED),
+    ([0, 0x0001], 0x7fff_b000, B_REFUSED),
+    ([0, 0x0400], 0x7fff_0000, BOOTS),
+    ([0, 0x0400], 0x7fff_c000, B_REFUSED),
+    ([0, 0x0100], 0x7fff_c000, BOOTS),
+    ([0, 0x0100], 0x7fff_f000, B_REFUSED),
+    ([0, 0x0f00], 0x7fff_0000, BOOTS),
+    ([0, 0x0f00], 0x7fff_0001, B_REFUSED),
+    ([0, 0x1000], 0x7fff_0000, B_REFUSED),
+    ([0, 0x1100], 0x7ffe_e000, BOOTS),
+    ([0, 0x1100], 0x7ffe_e001, B_REFUSED),
+    ([0, 0x1100], 0x7ffe_f000, B_REFUSED),
+    ([0, 0xfe00], 0x7ff0_1000, BOOTS),
+    ([0, 0xff00], 0x7ff0_1000, B_REFUSED),
+    ([0, 0x0402], 0x0002_0000, PROCESS_2_REFUSED),
+    ([0, 0xffff], 0x0002_0000, PROCESS_2_REFUSED),
+    ([0, 0x0001_0400], 0x0002_0000, PROCESS_2_REFUSED),
+    ([0, 0x8000_0001], 0x0002_0000, PROCESS_2_REFUSED),
+    ([0, 0x0001_0000], 0x7fff_b000, PROCESS_2_REFUSED),
+    ([0x0401, 0], 0x0002_0000, KERNEL_REFUSED),
+    ([0xff00, 0x0400], 0x0002_0000, KERNEL_REFUSED),
+    ([0x0001_0000, 0x0002], 0x0002_0000, KERNEL_REFUSED),
+    ([u32::MAX, u32::MAX], 0x7fff_b000, KERNEL_REFUSED),
+];
+
+fn stack_case((kind_words, b, expected): &StackFigures) -> Marked {
+    let mut draft = board();
+    for (process, kind_word) in draft.processes.iter_mut().zip(kind_words) {
+        process.kind_word = *kind_word;
+    }
+    draft.sections[2].va = *b;
+    Marked {
+        name: format!("small board, kind words {kind_words:x?}, B at {b:x}"),
+        draft,
+        expected: *expected,
+    }
+}
+
+/// Bit 0 is kind 1, bits 8 to 15 are 1 to 128 pages of stack; no other bit is for a user process, and none for the kernel.
+fn bit_case(number: u64) -> Option<Marked> {
+    let (process, bit) = (number / 32, number % 32);
+    let (whose, expected) = match (process, bit) {
+        (0, _) => ("the kernel's", KERNEL_REFUSED),
+        (1, 0 | 8..=15) => ("process 2's", BOOTS),
+        (1, _) => ("process 2's", PROCESS_2_REFUSED),
+        _ => return None,
+    };
+    let mut draft = board();
+    draft.processes[process as usize].kind_word = 1 << bit;
+    Some(Marked {
+        name: format!("small board, {whose} kind word with bit {bit}"),
         draft,
         expected,
     })
@@ -154,7 +256,7 @@ fn check_words(name: &str, ram: &[u8], figures: &[(usize, usize, u32)]) -> Resul
 /// The second program against the papers' own figures.
 pub fn check_rules() -> Result<(), String> {
     for marked in (0..).map_while(marked) {
-        check_answer(marked.name, &marked.draft, marked.expected)?;
+        check_answer(&marked.name, &marked.draft, marked.expected)?;
     }
     let draft = board();
     let ram = load(&draft).image;
@@ -170,9 +272,9 @@ pub fn check_rules() -> Result<(), String> {
         (3, 511, 0x1000_0401),
         (3, 1023, 0x1000_1001),
         (5, 1023, 0x1000_1001),
-        (1, 1020, 22),
         (7, 0, 0x8044_0005),
         (7, 3, 0x8084_0003),
+        (7, 5, 0x8000_0000),
         (6, 0, 1),
         (0, 0, 0xeeee_eeee),
         (12, 0, 0xeeee_eeee),
@@ -187,14 +289,35 @@ pub fn check_rules() -> Result<(), String> {
     if (owners(0), owners(1), owners(2)) != (1, 13, 2) {
         return Err("small board: the tracker here does not count 1 free page, 13 of process 1, 2 of process 2".to_string());
     }
+    check_stacks()?;
     check_flash()?;
     check_writer(&draft)
+}
+
+/// "The reserved entries are that many, all in block 511", which has page 1; "stack pointers stay".
+fn check_stacks() -> Result<(), String> {
+    for (kind_word, first) in [
+        (0, 1008),
+        (0x0100, 1023),
+        (0x0400, 1020),
+        (0x1000, 1008),
+        (0xff00, 769),
+    ] {
+        let mut draft = board();
+        draft.processes[1].kind_word = kind_word;
+        let mut figures = vec![(3, 511, 0x1000_0401), (7, 5, 0x8000_0000)];
+        figures.extend((0..first).map(|entry| (1, entry, 0)));
+        figures.extend((first..1024).map(|entry| (1, entry, 22)));
+        let name = format!("small board, kind word {kind_word:#x}");
+        check_words(&name, &load(&draft).image, &figures)?;
+    }
+    Ok(())
 }
 
 /// The small board with A in flash: process 2 is of kind 1, A is at byte 0x1020 of an image of two pages, and zeros are around it.
 fn flash_board() -> Draft {
     let mut draft = board();
-    draft.processes[1].kind = 1;
+    draft.processes[1].kind_word = 1;
     draft.sections[1].offset = 0x1020;
     draft.flash = vec![0; 0x2000];
     draft.flash[..256].fill(0x5a);
@@ -204,13 +327,23 @@ fn flash_board() -> Draft {
 
 /// What makes 02's rule (A6), 13 or 11 hold or not on the flash board, with number, place, free pages and offset. Two pages are free
 /// where A is in flash, one where it is copied.
-const FLASH_FIGURES: [(&str, fn(&mut Draft), [u32; 4]); 20] = [
+const FLASH_FIGURES: [(&str, fn(&mut Draft), [u32; 4]); 22] = [
     ("A in flash", |_| {}, [0, 0, 2, 0]),
-    ("kind 0", |d| d.processes[1].kind = 0, [0, 0, 1, 0]),
-    ("kind 2", |d| d.processes[1].kind = 2, [6, 1, 0, 48]),
+    ("kind 0", |d| d.processes[1].kind_word = 0, [0, 0, 1, 0]),
+    ("kind 2", |d| d.processes[1].kind_word = 2, [6, 1, 0, 48]),
+    (
+        "kind 1 and stack bits",
+        |d| d.processes[1].kind_word = 0x0401,
+        [0, 0, 2, 0],
+    ),
+    (
+        "kind 0 and stack bits",
+        |d| d.processes[1].kind_word = 0x0400,
+        [0, 0, 1, 0],
+    ),
     (
         "kernel of kind 1",
-        |d| d.processes[0].kind = 1,
+        |d| d.processes[0].kind_word = 1,
         [6, 0, 0, 32],
     ),
     ("offset", |d| d.sections[1].offset = 0x1021, [0, 0, 1, 0]),
@@ -251,7 +384,8 @@ fn check_flash() -> Result<(), String> {
         (3, 32, 0x1000_2cd7),
         (4, 0, 0x1000_0c01),
         (4, 511, 0x1000_0801),
-        (2, 1020, 22),
+        (2, 1007, 0),
+        (2, 1008, 22),
         (8, 3, 0x8084_0004),
     ];
     check_words(
@@ -262,7 +396,7 @@ fn check_flash() -> Result<(), String> {
 }
 
 /// "Block 120 bytes: p 2 at 32, s 3 at 64, r 1 at 112": from its records, the writer here makes it in a buffer of 121 bytes. With kind 2
-/// in process record 1 it refuses 6 at 1, byte 48.
+/// or a bit above 15 in process record 1 it refuses 6 at 1, byte 48; with any bit in record 0, 6 at 0, byte 32.
 fn check_writer(draft: &Draft) -> Result<(), String> {
     let block = draft.block();
     let words: Vec<u32> = (0..30).map(|i| word(&block, 0, i)).collect();
@@ -278,12 +412,20 @@ fn check_writer(draft: &Draft) -> Result<(), String> {
             written.answer
         ));
     }
-    for (kind, expected) in [(1, [0, 0, 120, 0]), (2, [6, 1, 0, 48])] {
-        lists[0][7] = kind;
+    let written = [0, 0, 120, 0];
+    for (kind_words, expected) in [
+        ([0, 1], written),
+        ([0, 2], [6, 1, 0, 48]),
+        ([0, 0xff01], written),
+        ([0, 0x0402], [6, 1, 0, 48]),
+        ([0, 0x0001_0000], [6, 1, 0, 48]),
+        ([0x0400, 0], [6, 0, 0, 32]),
+    ] {
+        [lists[0][3], lists[0][7]] = kind_words;
         let answer = writer::write(&lists, &[0xee; 121], Fault::None).answer;
         if answer != expected {
             return Err(format!(
-                "small board, kind {kind}: the writer here gives {answer:?}"
+                "small board, kind words {kind_words:x?}: the writer here gives {answer:?}"
             ));
         }
     }

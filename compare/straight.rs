@@ -1,7 +1,8 @@
 //! 02's rule (A6) for the sections that are used straight from flash, and take no RAM.
 
+use crate::kind_word;
 use crate::memory::Memory;
-use crate::rules::{Board, Fault, Section, NOCOPY, PAGE, WRITABLE};
+use crate::rules::{Board, Fault, Process, Section, NOCOPY, PAGE, WRITABLE};
 
 /// What keeps a section out of flash that is of a process of kind 1, "with neither NOCOPY nor writable".
 #[derive(Clone, Copy, PartialEq, Eq, Debug)]
@@ -46,7 +47,8 @@ pub fn causes(section: &Section, flash: &[u8], fault: Fault) -> Vec<Cause> {
 /// Sections of user processes of kind 1 "with neither NOCOPY nor writable", by record.
 pub fn candidates(board: &Board) -> Vec<bool> {
     let mut all = vec![false; board.sections.len()];
-    for process in board.processes.iter().filter(|process| process.kind == 1) {
+    let of_kind_1 = |process: &&Process| kind_word::kind(process.kind_word) == 1;
+    for process in board.processes.iter().filter(of_kind_1) {
         for i in process.sections.clone() {
             let section = &board.sections[i];
             all[i] = !section.has(NOCOPY) && !section.has(WRITABLE);
