@@ -2,7 +2,7 @@
 use mathlib.Core.Path.{_≡_, refl}
 use mathlib.Core.Bool.{Bool, true, false}
 use mathlib.Core.List.{List, [], _∷_, map}
-use Prim.Native.Nat.{ℕ, _^_}
+use Prim.Native.Nat.{ℕ, _-_, _^_}
 use native.Mathlib.Decide.{ℕ-discrete}
 use lib.Dec.{leb, ltb, eqb}
 use Rattle.notation.specs.Choice.{choose, choices}
@@ -106,7 +106,7 @@ pub stack-examples : allHold examples ≡ true
 unfolding withStack examples example-rules load-rules refusal-rules order-rules in-place-rules block-rules area-rules words lists choices
 stack-examples = refl
 
--- THE RESERVED ENTRIES, 22, of the leaf table of process 2 for root slot 511: the kind word, and the index of the first
+-- THE RESERVED ENTRIES, 22, of the leaf table of process 2 for root slot 511, up to its last: the kind word, and the index of the first
 pub record Reserved : Type 0 where
   pub kindWord : ℕ
   pub first : ℕ
@@ -119,9 +119,10 @@ reserves =
     ∷ record { kindWord = 0xFF00; first = 769 }
     ∷ []
 
-unfoldable pub slot511 : Reserved → List ℕ
-slot511 x = tab 1024 (leafEntry (withStack (x .kindWord) 0x0002_0000) 1 (λ d. 0) 2 511)
+-- entry 0, the one before the first reserved, that one, and the last
+unfoldable pub edges : Reserved → List ℕ
+edges x = map (leafEntry (withStack (x .kindWord) 0x0002_0000) 1 (λ d. 0) 2 511) (0 ∷ (x .first - 1) ∷ x .first ∷ 1023 ∷ [])
 
-pub reserved-entries : map slot511 reserves ≡ map (λ (x : Reserved). tab 1024 (λ i. choose (ltb i (x .first)) 0 22)) reserves
-unfolding ℕ-discrete withStack reserves slot511 example-rules table-rules entry-rules order-rules space-rules block-rules words lists choices
+pub reserved-entries : map edges reserves ≡ map (λ (x : Reserved). 0 ∷ 0 ∷ 22 ∷ 22 ∷ []) reserves
+unfolding ℕ-discrete withStack reserves edges example-rules table-rules entry-rules order-rules space-rules block-rules words lists choices
 reserved-entries = refl
