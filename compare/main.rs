@@ -37,7 +37,7 @@ const CASES: u64 = 20_000;
 /// From how many cases on each kind of case (met.rs) must be met.
 const KIND_CASES: u64 = 5_000;
 /// Within how many cases a fault must be found.
-const FAULT_CASES: u64 = 1_000;
+const FAULT_CASES: u64 = 500;
 
 struct Options {
     cases: u64,
