@@ -6,11 +6,11 @@ use mathlib.Core.List.{List}
 use Prim.Native.Nat.{ℕ, _+_, _*_, _/_, _%_, _≤_}
 use native.Mathlib.Omega.{arith}
 use lib.Dec.{eqb}
-use borrow.Author.Tests.{eqb-true, eqb-false, ne-eqb, ltb-false, le-ltb, not-false}
+use borrow.Author.Tests.{eqb-true, eqb-false, eq-eqb, ne-eqb, ltb-false, le-ltb, not-false}
 use Rattle.notation.specs.Choice.{any}
 use Rattle.rules.specs.Block.{kindOf, stackBits, kindWord, stackPages}
 use Rattle.rules.specs.Refusals.{kindUnfit}
-use Rattle.laws.specs.Choice.{by-choose, any-none}
+use Rattle.laws.specs.Choice.{by-choose, choose-yes, any-none}
 
 -- 6 leaves the kernel no kind word but 0
 only-zero : (w : ℕ) → kindUnfit w 0 ≡ false → w ≡ 0
@@ -37,7 +37,11 @@ pub user-kind-word : (w i : ℕ) → i ≢ 0 → (kindUnfit w i ≡ false) ↔ (
 unfolding kindUnfit kindOf stackBits any
 user-kind-word w i user = (only-low-bits w i, λ p. rw (ne-eqb i 0 user, le-ltb 1 (w % 256) (p .0), le-ltb 0xFFFF w (omega (arith, p .1))))
 
--- a stack has 255 pages at most, and a user's at least one
+-- the kernel has no stack, a user process one of 1 to 255 pages
+pub kernel-stack : (b : List ℕ) (q : ℕ) → q ≡ 1 → stackPages b q ≡ 0
+unfolding stackPages
+kernel-stack b q e = choose-yes _ _ (eq-eqb q 1 e)
+
 pub stack-at-most : (b : List ℕ) (q : ℕ) → stackPages b q ≤ 255
 unfolding stackPages stackBits
 stack-at-most b q =

@@ -1,7 +1,7 @@
 -- DEMAND 2, "exactly the sections 01 gives it, zero around them, those rights, and nothing else but the kernel's own mapping and the stack
 -- reserve": what that says of a view, and that `sees` keeps to it where no cause of a refusal holds.
 use mathlib.Core.Path.{_≡_, refl, ap, _∙_}
-use mathlib.Core.Logic.{_≢_, _⊎_, inl, inr}
+use mathlib.Core.Logic.{_≢_, _⊎_, inl, inr, _↔_}
 use mathlib.Core.List.{List}
 use mathlib.Core.Option.{some}
 use mathlib.Core.Bool.{true, false, _&&_}
@@ -11,26 +11,27 @@ use native.Mathlib.Numerals.{add-one}
 use native.Mathlib.Omega.{arith}
 use lib.ListN.{length, getD}
 use lib.Dec.{leb, ltb}
-use borrow.Author.Tests.{eq-eqb, ne-eqb, le-leb, lt-leb, lt-ltb, le-ltb, ltb-false}
+use borrow.Author.Tests.{eq-eqb, ne-eqb, leb-true, ltb-true, le-leb, lt-leb, lt-ltb, le-ltb, ltb-false}
 use Rattle.notation.specs.Choice.{choose}
 use Rattle.types.specs.declared.Area.{Area}
 use Rattle.types.specs.declared.PageRange.{PageRange}
+use Rattle.types.specs.declared.Rights.{Rights}
 use Rattle.types.specs.declared.View.{View}
 use Rattle.types.specs.declared.View.the-variants as S
 use Rattle.rules.specs.Lent.{Image, pagesIn}
-use Rattle.rules.specs.Block.{stackFirst, processCount, regionCount, sectionsOf, sectionRecord, address, size, sectionEnd, firstPage, lastPage, flashOffset, noCopy, regionPages, ioPagesOf, ioPages}
+use Rattle.rules.specs.Block.{stackPages, stackFirst, processCount, regionCount, sectionsOf, sectionRecord, address, size, sectionEnd, firstPage, lastPage, flashOffset, noCopy, regionPages, ioPagesOf, ioPages}
 use Rattle.rules.specs.Refusals.{ramUnfit, rangeFirst, rangeLast, regionUnfit}
-use Rattle.rules.specs.Space.{trackerPage, processList, blockCopy, Mapping, unmapped, stack, maps, sectionRights, kernelRead, kernelWrite, sectionMapping, hasPage, inTracker, kernelPage, inStack, userPage, mappingAt}
+use Rattle.rules.specs.Space.{Data, trackerPage, processList, blockCopy, Mapping, unmapped, stack, maps, sectionRights, kernelRead, kernelWrite, sectionMapping, hasPage, inTracker, kernelPage, inStack, userPage, mappingAt}
 use Rattle.rules.specs.Order.{pagesFor, trackerPages, owner, useOf}
 use Rattle.rules.specs.Contents.{tracker, processListByte}
 use Rattle.rules.specs.Load.{satpWord}
 use Rattle.rules.specs.Sees.{sectionByte, byteAt, viewOf, sees, seesOn, sectionView}
 use Rattle.rules.specs.InPlace.{xipOf}
-use Rattle.laws.specs.Choice.{false-not-true, by-choose, and-both, and-not-left, and-not-right, choose-yes, choose-no, any-none}
+use Rattle.laws.specs.Choice.{false-not-true, by-choose, and-left, and-right, and-both, and-not-left, and-not-right, choose-yes, choose-no, any-none}
 use Rattle.laws.specs.Counts.{sum-none}
 use Rattle.accepted.specs.NoCause.{NoCause}
 use Rattle.accepted.specs.Sections.{section-at-page, page-from, page-to}
-use Rattle.accepted.specs.Stacks.{stack-at-most}
+use Rattle.accepted.specs.Stacks.{kernel-stack, stack-at-most}
 use Rattle.accepted.specs.Tracker.{tracker-pages, tracker-byte, tracker-io}
 use Rattle.demands.specs.Mappings.{in-stack-slot, by-mapping}
 
@@ -126,6 +127,40 @@ tracker-page b T q i h l =
       le-leb 0xFFF40 (0xFFF40 + i) (omega arith),
       lt-ltb (0xFFF40 + i) (0xFFF40 + T) (omega arith),
       d,
+    )
+
+-- THE STACK RESERVATION: v is reserved just where address a is one of the pages of process q's stack, which ends at 0x80000000. The kernel
+-- has none
+abbrev pub StackReserve : Image → ℕ → ℕ → View → Type 0
+StackReserve x q a v = (v ≡ S.Reserved) ↔ ((0x8000_0000 - 4096 * stackPages (x .block) q ≤ a) × (a < 0x8000_0000))
+
+page-not-reserved : {A : Type 0} {t : Rights} {y : ℕ} → S.Page t y ≡ S.Reserved → A
+page-not-reserved e = let z : _≡_ {A = ℕ} 0 1 = cc in absurd (omega arith)
+
+reserved-page : (byte : Data → ℕ) (b : List ℕ) (T q v : ℕ) → viewOf byte (mappingAt b T q v) ≡ S.Reserved → inStack b q v ≡ true
+unfolding viewOf
+reserved-page byte b T q v =
+    by-mapping (λ s. viewOf byte s ≡ S.Reserved → inStack b q v ≡ true) b T q v
+    (λ e. let z : _≡_ {A = ℕ} 0 1 = cc in absurd (omega arith))
+    (λ _ e _. e)
+    (λ _ _ _ _. page-not-reserved)
+    (λ _ _ _. page-not-reserved)
+    (λ _. page-not-reserved)
+    (λ _. page-not-reserved)
+    (λ _. page-not-reserved)
+
+pub stack-reserved : (x : Image) (ram : PageRange) (q a : ℕ) → StackReserve x q a (seesOn x ram q a)
+unfolding seesOn sees viewOf inStack stackFirst
+stack-reserved x ram q a =
+    let b : List ℕ = x .block in
+    let n : ℕ = stackPages b q in
+    let v : ℕ = a / 4096 in (
+      λ e. let here : (leb (0x80000 - n) v && ltb v 0x80000) ≡ true = reserved-page _ b _ q v e in
+          let from : 0x80000 - n ≤ v = leb-true _ _ (and-left _ _ here) in
+          let to : v < 0x80000 = ltb-true _ _ (and-right (leb (0x80000 - n) v) _ here) in
+          (omega (arith, stack-at-most b q), omega arith),
+      λ p. rw (stack-page b _ q v (λ e. omega (arith, kernel-stack b q e, p .0, p .1))
+          (and-both (le-leb (0x80000 - n) v (omega (arith, stack-at-most b q, p .0))) (lt-ltb v 0x80000 (omega (arith, p .1))))),
     )
 
 -- WHAT STANDS AT A PAGE OF A SECTION: neither the stack nor a page of the kernel's own

@@ -16,7 +16,7 @@ use Rattle.rules.specs.Load.{boots, ramAfter, after, answer}
 use Rattle.rules.specs.Sees.{seenFrom, rootOf, processSees}
 use Rattle.laws.specs.Choice.{and-both, choose-yes, choose-map}
 use Rattle.accepted.specs.NoCause.{answer-number}
-use Rattle.demands.specs.Demand2.{sees-what-the-rules-give, sees-exactly, flash-byte-seen, one-owner-one-virtual-page, pages-add-up}
+use Rattle.demands.specs.Demand2.{sees-what-the-rules-give, sees-exactly, stack-seen, flash-byte-seen, one-owner-one-virtual-page, pages-add-up}
 use Rattle.demands.specs.Demand3.{SameOnBoth, boots-on-larger-ram, same-on-both}
 use Rattle.order_roots.specs.declared.Root.{Root}
 use Rattle.order_roots.specs.declared.Root.the-variants.{At}
@@ -69,6 +69,7 @@ one-board x r exit q a root full seen h er ea ex es =
           record {
             views = λ lo hi. p lo hi ∙ sees-what-the-rules-give x r e q a lo hi h .0;
             exactly = λ lo hi. rw (p lo hi) (sees-exactly x r e q a lo hi h);
+            stack = λ lo hi. rw (p lo hi) (stack-seen x r e q a lo hi h);
             flash-byte = λ lo hi. rw (p lo hi) (flash-byte-seen x r e q a lo hi h);
             one-owner = rw ex (one-owner-one-virtual-page x r e);
             in-ram-or-flash = rw ex (λ q′ a′ lo hi h′. sees-what-the-rules-give x r e q′ a′ lo hi h′ .1);
