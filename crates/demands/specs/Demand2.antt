@@ -41,7 +41,7 @@ use Rattle.accepted.specs.Counting.{owners-sum, tracker-count-owner, tracker-co
 use Rattle.demands.specs.Mappings.{Flashed, Copied, Stored, copied-page, flashed-page, AtHome, at-home, homeOf, SectionRights, Own, own}
 use Rattle.demands.specs.Walk.{answerFor, walk-answers, shown-page, flash-bytes, sees-rules}
 use Rattle.demands.specs.Loaded.{loaded-length, loaded-byte, loaded-use, after-boot, after-length, flashed}
-use Rattle.demands.specs.Exactly.{Exactly, exactly, StackReserve, stack-reserved, section-page, tracker-two, tracker-page}
+use Rattle.demands.specs.Exactly.{Exactly, exactly, StackReservation, stack-reserved, section-page, tracker-two, tracker-page}
 
 -- WHAT THE DEMAND SAYS of RAM `r` before a call, its bytes after the call, and the call's answer
 -- the RAM page at physical page P, which process q reaches at address a in RAM `end`
@@ -244,7 +244,7 @@ module _ (x : Image) (r : Memory) (boot : boots x r ≡ true) where
       (shown-page (after x r) (x .flash) a P (sectionRights b q n) _ (flash-bytes (after x r) (x .flash) P (rw same-area (f .not-ram)) (f .inside)) ∙ rw at)
 
   -- 02, A7: what it sees reserved is just its stack, of as many pages as its kind word says
-  pub stack-seen : (q a : ℕ) → 1 ≤ q → q ≤ processCount b → a < 0x1_0000_0000 → StackReserve x q a (processSees x r q a)
+  pub stack-seen : (q a : ℕ) → 1 ≤ q → q ≤ processCount b → a < 0x1_0000_0000 → StackReservation x q a (processSees x r q a)
   stack-seen q a lo hi h = rw (sees-what-the-rules-give q a lo hi h .0) (stack-reserved x ram q a)
 
   -- the tracker's lower part is in the higher RAM page: page i is i RAM pages below the first, in every process

@@ -11,7 +11,7 @@ use native.Mathlib.Numerals.{add-one}
 use native.Mathlib.Omega.{arith}
 use lib.ListN.{length, getD}
 use lib.Dec.{leb, ltb}
-use borrow.Author.Tests.{eq-eqb, ne-eqb, leb-true, ltb-true, le-leb, lt-leb, lt-ltb, le-ltb, ltb-false}
+use borrow.Author.Tests.{eq-eqb, ne-eqb, le-leb, lt-leb, lt-ltb, le-ltb, ltb-false}
 use Rattle.notation.specs.Choice.{choose}
 use Rattle.types.specs.declared.Area.{Area}
 use Rattle.types.specs.declared.PageRange.{PageRange}
@@ -27,13 +27,13 @@ use Rattle.rules.specs.Contents.{tracker, processListByte}
 use Rattle.rules.specs.Load.{satpWord}
 use Rattle.rules.specs.Sees.{sectionByte, byteAt, viewOf, sees, seesOn, sectionView}
 use Rattle.rules.specs.InPlace.{xipOf}
-use Rattle.laws.specs.Choice.{false-not-true, by-choose, and-left, and-right, and-both, and-not-left, and-not-right, choose-yes, choose-no, any-none}
+use Rattle.laws.specs.Choice.{false-not-true, by-choose, and-both, and-not-left, and-not-right, choose-yes, choose-no, any-none}
 use Rattle.laws.specs.Counts.{sum-none}
 use Rattle.accepted.specs.NoCause.{NoCause}
 use Rattle.accepted.specs.Sections.{section-at-page, page-from, page-to}
-use Rattle.accepted.specs.Stacks.{kernel-stack, stack-at-most}
+use Rattle.accepted.specs.Stacks.{kernel-stack, stack-at-most, range-ends}
 use Rattle.accepted.specs.Tracker.{tracker-pages, tracker-byte, tracker-io}
-use Rattle.demands.specs.Mappings.{in-stack-slot, by-mapping}
+use Rattle.demands.specs.Mappings.{in-stack-first, in-stack-last, in-stack-slot, by-mapping}
 
 -- v is what process q is to see at address a, where RAM has these pages. Its sections are its own and the kernel's
 pub record Exactly (x : Image) (ram : PageRange) (q a : ℕ) (v : View) : Type 0 where
@@ -131,8 +131,8 @@ tracker-page b T q i h l =
 
 -- THE STACK RESERVATION: v is reserved just where address a is one of the pages of process q's stack, which ends at 0x80000000. The kernel
 -- has none
-abbrev pub StackReserve : Image → ℕ → ℕ → View → Type 0
-StackReserve x q a v = (v ≡ S.Reserved) ↔ ((0x8000_0000 - 4096 * stackPages (x .block) q ≤ a) × (a < 0x8000_0000))
+abbrev pub StackReservation : Image → ℕ → ℕ → View → Type 0
+StackReservation x q a v = (v ≡ S.Reserved) ↔ ((0x8000_0000 - 4096 * stackPages (x .block) q ≤ a) × (a < 0x8000_0000))
 
 page-not-reserved : {A : Type 0} {t : Rights} {y : ℕ} → S.Page t y ≡ S.Reserved → A
 page-not-reserved e = let z : _≡_ {A = ℕ} 0 1 = cc in absurd (omega arith)
@@ -149,16 +149,14 @@ reserved-page byte b T q v =
     (λ _. page-not-reserved)
     (λ _. page-not-reserved)
 
-pub stack-reserved : (x : Image) (ram : PageRange) (q a : ℕ) → StackReserve x q a (seesOn x ram q a)
+pub stack-reserved : (x : Image) (ram : PageRange) (q a : ℕ) → StackReservation x q a (seesOn x ram q a)
 unfolding seesOn sees viewOf inStack stackFirst
 stack-reserved x ram q a =
     let b : List ℕ = x .block in
     let n : ℕ = stackPages b q in
     let v : ℕ = a / 4096 in (
-      λ e. let here : (leb (0x80000 - n) v && ltb v 0x80000) ≡ true = reserved-page _ b _ q v e in
-          let from : 0x80000 - n ≤ v = leb-true _ _ (and-left _ _ here) in
-          let to : v < 0x80000 = ltb-true _ _ (and-right (leb (0x80000 - n) v) _ here) in
-          (omega (arith, stack-at-most b q), omega arith),
+      λ e. let here : inStack b q v ≡ true = reserved-page _ b _ q v e in
+          (omega (arith, stack-at-most b q, in-stack-first b q v here), omega (arith, in-stack-last b q v here)),
       λ p. rw (stack-page b _ q v (λ e. omega (arith, kernel-stack b q e, p .0, p .1))
           (and-both (le-leb (0x80000 - n) v (omega (arith, stack-at-most b q, p .0))) (lt-ltb v 0x80000 (omega (arith, p .1))))),
     )
@@ -180,8 +178,8 @@ module _ (x : Image) (ram : Area) (ok : NoCause x ram) where
 
   -- the range of a user process ends below its stack, which ends below the kernel's 4 MiB
   below-stack : (q v : ℕ) → q ≢ 1 → v ≤ rangeLast b q / 4096 → (v < stackFirst b q) × (stackFirst b q ≤ 0x80000)
-  unfolding rangeLast stackFirst choose
-  below-stack q v user h = let h′ = rw (ne-eqb q 1 user) at h in (omega (arith, stack-at-most b q), omega arith)
+  unfolding stackFirst
+  below-stack q v user h = (omega (arith, range-ends b q user, stack-at-most b q), omega arith)
 
   user-section-page : (T q j v : ℕ) → q ≢ 1 → 1 ≤ q → q ≤ processCount b → j < sectionsOf b q → hasPage b v (sectionRecord b q j) ≡ true
       → mappingAt b T q v ≡ sectionMapping b q v (some j)

@@ -5,7 +5,7 @@ use mathlib.Core.List.{List}
 use mathlib.Core.Bool.{Bool, true, false}
 use Prim.Native.Nat.{ℕ, _+_, _-_, _/_, _≤_, _<_}
 use native.Mathlib.Omega.{arith}
-use lib.Dec.{leb, ltb, eqb}
+use lib.Dec.{leb, eqb}
 use borrow.Author.Tests.{eqb-true, eqb-false, eq-eqb, ne-eqb, leb-true, ltb-true, le-leb}
 use Rattle.notation.specs.Choice.{choose}
 use Rattle.notation.specs.Lists.{exists}
@@ -29,16 +29,17 @@ pub in-tracker-last : (T v : ℕ) → inTracker T v ≡ true → v < 0xFFF40 + T
 unfolding inTracker
 in-tracker-last T v e = ltb-true _ _ (and-right (leb 0xFFF40 v) _ e)
 
+pub in-stack-first : (b : List ℕ) (q v : ℕ) → inStack b q v ≡ true → 0x80000 - stackPages b q ≤ v
+unfolding inStack stackFirst
+in-stack-first b q v e = leb-true _ _ (and-left _ _ e)
+
+pub in-stack-last : (b : List ℕ) (q v : ℕ) → inStack b q v ≡ true → v < 0x80000
+unfolding inStack
+in-stack-last b q v e = ltb-true _ _ (and-right (leb (stackFirst b q) v) _ e)
+
 -- every stack lies in root slot 511, whatever its pages
 pub in-stack-slot : (b : List ℕ) (q v : ℕ) → inStack b q v ≡ true → v / 1024 ≡ 511
-unfolding inStack stackFirst
-in-stack-slot b q v e =
-    omega (
-      arith,
-      stack-at-most b q,
-      leb-true (0x80000 - stackPages b q) v (and-left _ (ltb v 0x80000) e),
-      ltb-true v 0x80000 (and-right (leb (0x80000 - stackPages b q) v) _ e),
-    )
+in-stack-slot b q v e = omega (arith, stack-at-most b q, in-stack-first b q v e, in-stack-last b q v e)
 
 -- THE CASES. A page with the user right is of a section of the process itself, which is not the kernel
 module _ (P : Mapping → Type 0) (b : List ℕ) (T q v : ℕ)

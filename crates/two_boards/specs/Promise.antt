@@ -18,7 +18,7 @@ use Rattle.rules.specs.Load.{boots, ramAfter, answer}
 use Rattle.rules.specs.Reader.{walk}
 use Rattle.rules.specs.Sees.{seesOn, seenFrom, rootOf, processSees}
 use Rattle.rules.specs.Compare.{compared, Agree}
-use Rattle.demands.specs.Exactly.{Exactly, StackReserve}
+use Rattle.demands.specs.Exactly.{Exactly, StackReservation}
 use Rattle.demands.specs.Demand2.{OneOwnerEach, InRamOrFlash, FlashByte, AddUp}
 use Rattle.order_roots.specs.declared.Root.{Root}
 use Rattle.order_roots.specs.declared.Root.the-variants.{Nowhere, At}
@@ -42,7 +42,7 @@ pub record Demand2 (x : Image) (r : Memory) (exit : List ℕ) (q a : ℕ) (o : B
   pub views : 1 ≤ q → q ≤ processCount (x .block) → o .seen ≡ seesOn x (pagesIn (memoryArea r)) q a
   pub exactly : 1 ≤ q → q ≤ processCount (x .block) → Exactly x (pagesIn (memoryArea r)) q a (o .seen)
   -- what it sees reserved is just its stack
-  pub stack : 1 ≤ q → q ≤ processCount (x .block) → StackReserve x q a (o .seen)
+  pub stack : 1 ≤ q → q ≤ processCount (x .block) → StackReservation x q a (o .seen)
   -- on a page of flash it sees flash's own byte
   pub flash-byte : 1 ≤ q → q ≤ processCount (x .block) → FlashByte x q a (o .seen)
   -- a RAM page reached with the user right, by any process at any address, has one owner and one virtual page
