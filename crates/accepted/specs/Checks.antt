@@ -79,7 +79,7 @@ pass {c = c} {cs} p (inr d) =
         step = suc d.2.step;
         check = d.2.check;
         there = d.2.there;
-        earlier = λ k. elim k [
+        earlier = λ k. elim k as (λ k. k < suc d.2.step → (c' : Check) → lookup (c ∷ cs) k ≡ some c' → Passes c') [
           | zero ↦ λ h c' e. same_check c c' e p
           | suc k ↦ λ h c' e. d.2.earlier k (le_of_suc-le-suc h) c' e
         ];

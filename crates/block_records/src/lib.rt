@@ -1,4 +1,5 @@
 // The boot block's records, read from any bytes: what lies past their end counts as 0.
+#![tactic(auto)]
 ghost use Rattle.std.specs.Prelude.{◌≡◌, ℕ, ◌+◌};
 ghost use Rattle.notation.specs.Words.{word};
 ghost use Rattle.rules.specs.Block.{kind_of, stack_bits, stack_pages, section_at};
@@ -8,7 +9,7 @@ ghost use Rattle.block_records.specs.Read.{IsProcess, IsSection, IsRegion};
 use types::{Process, VirtPage};
 
 // A section record, its flags by name, its virtual pages, and how many they are.
-#[derive(Drop)]
+#[derive(Clone, Copy)]
 pub struct Section {
     pub address: u32,
     pub size: u32,
@@ -23,7 +24,7 @@ pub struct Section {
 }
 
 // A region record, and the address after its last byte.
-#[derive(Drop)]
+#[derive(Clone, Copy)]
 pub struct Region {
     pub start: u32,
     pub pages: u32,

@@ -1,4 +1,5 @@
 // The count of leaf tables for C, to be measured: bench/leaf-tables links it, and nothing else does.
+#![tactic(auto)]
 ghost use Rattle.std.specs.Prelude.{◌≡◌, length, ltb};
 ghost use Rattle.notation.specs.Choice.{choose};
 ghost use Rattle.rules.specs.Block.{sections_of};

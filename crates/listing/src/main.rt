@@ -2,6 +2,7 @@
 // FLASH_START, into RAM of so many pages, which starts at physical address START, and prints the listing of 01. With no arguments it
 // lists the small board; with -h or --help alone it prints how it is called. What is wrong with an argument is said in one line on
 // standard error, and nothing else is printed.
+#![tactic(auto)]
 ghost use Rattle.std.specs.Prelude.{◌≡◌, length, ◌≤◌};
 
 use libc::{STDERR_FILENO, STDOUT_FILENO};
@@ -15,7 +16,7 @@ const FLASH_START: u32 = 0x2000_0000;
 
 // The bytes of a file, put at the start of a buffer; or the file is longer than the buffer, which is full then; or it was said
 // why the file cannot be read.
-#[derive(Drop)]
+#[derive(Clone, Copy)]
 enum File {
     Whole(usize),
     Longer,

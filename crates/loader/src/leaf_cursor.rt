@@ -10,7 +10,7 @@ use numbers::greatest;
 use types::{KERNEL_SLOT, STACK_SLOT, TABLE_ENTRIES};
 
 // A leaf table to come.
-#[derive(Drop)]
+#[derive(Clone, Copy)]
 pub(crate) struct LeafCursor {
     // Its root slot, or 1,024 after the last.
     pub slot: u32,

@@ -1,8 +1,9 @@
 // A number that a text spells: the public function answers for any text.
+#![tactic(auto)]
 ghost use Rattle.std.specs.Prelude.{◌≡◌, ◌≤◌, min};
 ghost use Rattle.numerals.specs.Numerals.{between, digit, spelled, value_from, in_base, marked, number_of};
 
-#[derive(Drop)]
+#[derive(Clone, Copy)]
 pub enum Number {
     Value(u32),
     // A number of 2^32 or more.

@@ -1,4 +1,5 @@
 // How many tables a process has, counted by root slot, section by section. Nothing here goes page by page.
+#![tactic(auto)]
 ghost use Rattle.std.specs.Prelude.{◌≡◌, length};
 ghost use Rattle.rules.specs.Order.{table_uses};
 ghost use Rattle.order_leaves.specs.TakenSlots.{slot_taken, with_slots, IsTaken};
@@ -25,7 +26,7 @@ fn slot_taken(block: &[u8], first: u32, k: u32, m: u32) -> bool
 }
 
 // Some root slots: how many, and a slot that all of them are below.
-#[derive(Drop)]
+#[derive(Clone, Copy)]
 struct Taken {
     slots: u32,
     end: u32,

@@ -1,4 +1,5 @@
 // Where a process's root table is, by the order of pages.
+#![tactic(auto)]
 ghost use Rattle.std.specs.Prelude.{◌≡◌};
 ghost use Rattle.rules.specs.Lent.{image_of, area_of};
 ghost use Rattle.order_roots.specs.Roots.{root_found};
@@ -6,7 +7,7 @@ ghost use Rattle.order_roots.specs.Roots.{root_found};
 use types::{PageRange, PhysPage};
 
 // Where the root table of a process is.
-#[derive(Drop)]
+#[derive(Clone, Copy)]
 pub enum Root {
     // The block is refused, or has no such process.
     Nowhere,

@@ -1,16 +1,17 @@
 // RAM's pages from the top down: the page allocator, the page at a place in the order of pages, and the physical page of each.
+#![tactic(auto)]
 ghost use Rattle.std.specs.Prelude.{◌≡◌, ◌+◌, ◌-◌, ◌%◌};
 
 use types::{PageRange, PhysPage, RamPage};
 
 // RAM pages 0 to left - 1 have not been handed out.
-#[derive(Drop)]
+#[derive(Clone, Copy)]
 pub struct PageAllocator {
     pub left: u32,
 }
 
 // The page taken, and the allocator after it.
-#[derive(Drop)]
+#[derive(Clone, Copy)]
 pub struct Allocation {
     pub page: RamPage,
     pub rest: PageAllocator,

@@ -1,4 +1,5 @@
 // What a line of records says.
+#![tactic(auto)]
 ghost use Rattle.std.specs.Prelude.{◌≡◌, ◌≤◌, length};
 ghost use Rattle.record_fields.specs.Fields.{fields};
 ghost use Rattle.record_lines.specs.Lines.{same, word_of, numbers_after, unread, value_of, value_at, first_unread, fault_at, record_of, numbered, line_of, faulty};
@@ -6,7 +7,7 @@ ghost use Rattle.record_lines.specs.Lines.{same, word_of, numbers_after, unread,
 use numerals::Number;
 
 // The first field of a line.
-#[derive(Drop)]
+#[derive(Clone, Copy)]
 pub enum Word {
     Process,
     Section,
@@ -15,7 +16,7 @@ pub enum Word {
 }
 
 // A line is empty, or a record with its words, or at fault.
-#[derive(Drop)]
+#[derive(Clone, Copy)]
 pub enum Line {
     Empty,
     // Entry point, first section, section count, kind word.

@@ -1,4 +1,5 @@
 // The records of a text, a line for each.
+#![tactic(auto)]
 ghost use Rattle.std.specs.Prelude.{◌≡◌, [], ◌∷◌, ◌+◌, ◌≤◌, min, length, get_or, drop};
 ghost use Rattle.notation.specs.Lists.{count_before};
 ghost use Rattle.text.specs.Text.{Appended};
@@ -9,7 +10,7 @@ use record_lines::Line;
 const LINE_FEED: u8 = 10;
 
 // What is read of a text: how many lines up to the first that is at fault, and how many words of each kind of record are held.
-#[derive(Drop)]
+#[derive(Clone, Copy)]
 pub struct Read {
     pub lines: usize,
     pub processes: usize,

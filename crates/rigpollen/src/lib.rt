@@ -1,4 +1,5 @@
 // The entries for C. A slice passes as a pointer and then a length.
+#![tactic(auto)]
 ghost use Rattle.std.specs.Prelude.{◌≡◌, length, set};
 ghost use Rattle.std.proofs.lemmas.List.Edits.{sets};
 ghost use Rattle.rules.specs.Lent.{image_of, memory_of, area_of};

@@ -1,4 +1,5 @@
 // Bytes and words read from lent slices: each function answers for any input.
+#![tactic(auto)]
 ghost use Rattle.std.specs.Prelude.{◌≡◌, ◌+◌, ◌*◌, ◌≤◌, length, get_or, take, drop};
 ghost use Rattle.notation.specs.Words.{word};
 ghost use Rattle.slices.specs.Words.{AreWords};
@@ -35,7 +36,7 @@ fn joined(a: u8, b: u8, c: u8, d: u8) -> u32
 }
 
 // Four words, one after the other.
-#[derive(Drop)]
+#[derive(Clone, Copy)]
 pub struct FourWords(pub u32, pub u32, pub u32, pub u32);
 
 // The first four words of bytes that have as many.

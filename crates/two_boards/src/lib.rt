@@ -1,4 +1,5 @@
 // Demands 2 and 3 as calls: one load, and what a process sees after it; and the same block and flash, at one address, on two RAMs.
+#![tactic(auto)]
 ghost use Rattle.std.specs.Prelude.{◌≡◌};
 ghost use Rattle.rules.specs.Lent.{image_of, memory_of};
 ghost use Rattle.two_boards.specs.Promise.{seen_at, OneBoard, TwoBoards};
@@ -7,13 +8,13 @@ use order_roots::Root;
 use types::{Answer, View};
 
 // The answer of a call, and what the process sees at the address after it.
-#[derive(Drop)]
+#[derive(Clone, Copy)]
 pub struct Board {
     pub answer: Answer,
     pub seen: View,
 }
 
-#[derive(Drop)]
+#[derive(Clone, Copy)]
 pub struct Boards {
     pub first: Board,
     pub second: Board,

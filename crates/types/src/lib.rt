@@ -1,4 +1,5 @@
 // The types that the definitions, the promises and the code share, and numbers of the format that the code names.
+#![tactic(auto)]
 
 // Bytes in a page.
 pub const PAGE_BYTES: u32 = 4096;
@@ -16,33 +17,33 @@ pub const STACK_SLOT: u32 = 511;
 pub const TOP_PAGES: u32 = 4;
 
 // A RAM page number: RAM page k starts at RAM's start + 4,096 k.
-#[derive(Drop)]
+#[derive(Clone, Copy)]
 pub struct RamPage(pub u32);
 
 // A virtual page number (VPN): a virtual address / 4,096.
-#[derive(Drop)]
+#[derive(Clone, Copy)]
 pub struct VirtPage(pub u32);
 
 // A physical page number (PPN): a physical address / 4,096.
-#[derive(Drop)]
+#[derive(Clone, Copy)]
 pub struct PhysPage(pub u32);
 
 // Physical addresses from `start` on: `length` bytes.
-#[derive(Drop)]
+#[derive(Clone, Copy)]
 pub struct Area {
     pub start: u32,
     pub length: usize,
 }
 
 // RAM as whole pages: `pages` of them, from physical page `base` on.
-#[derive(Drop)]
+#[derive(Clone, Copy)]
 pub struct PageRange {
     pub base: u32,
     pub pages: u32,
 }
 
 // The rights of a page: what may be done with its bytes, and whether a user program may do it.
-#[derive(Drop)]
+#[derive(Clone, Copy)]
 pub struct Rights {
     pub read: bool,
     pub write: bool,
@@ -51,7 +52,7 @@ pub struct Rights {
 }
 
 // A page table entry as it reads. The walk answers by the same cases, and never by Pointer.
-#[derive(Drop)]
+#[derive(Clone, Copy)]
 pub enum Entry {
     Absent,
     // The stack reservation of a user process.
@@ -62,7 +63,7 @@ pub enum Entry {
 }
 
 // What a process sees at an address: nothing, its stack reservation, or a page's rights and one byte.
-#[derive(Drop)]
+#[derive(Clone, Copy)]
 pub enum View {
     Absent,
     Reserved,
@@ -72,7 +73,7 @@ pub enum View {
 }
 
 // A process record of the boot block: its four words.
-#[derive(Drop)]
+#[derive(Clone, Copy)]
 pub struct Process {
     pub entry_point: u32,
     pub first_section: u32,
@@ -81,7 +82,7 @@ pub struct Process {
 }
 
 // What the check of one record returns: the number of the refusal, or 0, and the record's byte offset in the block.
-#[derive(Drop)]
+#[derive(Clone, Copy)]
 pub struct RecordCheck {
     pub number: u32,
     pub offset: usize,
@@ -89,7 +90,7 @@ pub struct RecordCheck {
 
 // Number, place and offset 0: it boots. Else the number of the refusal, its place, which is the record it was found at, counted from 0,
 // and that record's byte offset in the block; both 0 where it is of no record.
-#[derive(Drop)]
+#[derive(Clone, Copy)]
 pub struct Verdict {
     pub number: u32,
     pub place: u32,
@@ -97,7 +98,7 @@ pub struct Verdict {
 }
 
 // The full answer of the loader: number, place and offset as in a verdict. In a refusal the three counts are 0.
-#[derive(Drop)]
+#[derive(Clone, Copy)]
 pub struct Answer {
     pub number: u32,
     pub place: u32,
@@ -108,7 +109,7 @@ pub struct Answer {
 }
 
 // The answer of the block writer: number, place and offset as in a verdict, and the length of the block; in a refusal it is 0.
-#[derive(Drop)]
+#[derive(Clone, Copy)]
 pub struct Written {
     pub number: u32,
     pub place: u32,

@@ -1,11 +1,12 @@
 // write_block RECORDS BLOCK: writes the boot block of a text file of records, and prints what it wrote. With -h or --help alone it
 // prints how it is called. What is wrong is said in one line on standard error: no file is made then, and BLOCK keeps its bytes.
+#![tactic(auto)]
 ghost use Rattle.std.specs.Prelude.{◌≡◌, length};
 
 use libc::{SEEK_END, SEEK_SET, STDERR_FILENO, STDOUT_FILENO};
 
 // The bytes of a file, put at the start of a buffer; or the file is longer than the buffer; or it was said why it cannot be read.
-#[derive(Drop)]
+#[derive(Clone, Copy)]
 enum File {
     Whole(usize),
     Longer,

@@ -1,4 +1,5 @@
 // The block that is written from a text of records, and the reply: what is wrong with a line, the refusal, or what was written.
+#![tactic(auto)]
 ghost use Rattle.std.specs.Prelude.{◌≡◌, [], ◌++◌, ◌+◌, ◌/◌, ◌≤◌, min, eqb, length, get_or};
 ghost use Rattle.notation.specs.Choice.{choose};
 ghost use Rattle.notation.specs.Lists.{tab};
@@ -12,7 +13,7 @@ use record_lines::Line;
 use types::Written;
 
 // The length of the block that was written, 0 where none was; and where the reply ends.
-#[derive(Drop)]
+#[derive(Clone, Copy)]
 pub struct Reply {
     pub length: u32,
     pub end: usize,

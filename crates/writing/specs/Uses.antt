@@ -82,7 +82,7 @@ pub write_same : (c c' : Use → ℕ → ℕ) (r : List ℕ) (n : ℕ) (us : Lis
     → write_uses c r n us ≡ write_uses c' r n us
 unfolding write_uses
 write_same c c' r n [] e = refl
-write_same c c' r n (u ∷ us) e = rw (put_same r (n - 1) (c u) (c' u) e.0) (write_same c c' _ (n - 1) us e.1)
+write_same c c' r n (u ∷ us) e = rw (put_same r (n - 1) (c u) (c' u) e.0) (write_same c c' (put r (n - 1) (c' u)) (n - 1) us e.1)
 
 -- WRITTEN: RAM r₀ with n₀ pages left became r with n pages left when these uses were written
 pub record Wrote (c : Use → ℕ → ℕ) (us : List Use) (r₀ : List ℕ) (n₀ : ℕ) (r : List ℕ) (n : ℕ) : Type 0 where

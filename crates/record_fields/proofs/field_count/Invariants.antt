@@ -1,0 +1,14 @@
+use mathlib.Core.Path.{◌∙◌}
+use Prim.Native.Nat.{◌-◌}
+use native.Mathlib.Omega.{arith}
+use lib.ListN.{length}
+use Rattle.record_fields.specs.Fields.{hash, fields}
+use Rattle.record_fields.proofs.Fields.{AtField, field_first, field_moves, field_next, field_count_is}
+use borrow.Author.Rules.{rules}
+use Rattle.record_fields.proofs.field_count.Given as goal
+
+abbrev pub invariant-loop-at : goal.invariant-loop-at
+invariant-loop-at l = AtField l.text l.at l.k
+
+abbrev pub decreases-loop-at : goal.decreases-loop-at
+decreases-loop-at l = length l.text - l.at

@@ -1,0 +1,14 @@
+use native.Mathlib.Omega.{arith}
+use Rattle.notation.specs.Choice.{choose}
+use Rattle.record_fields.specs.Fields.{separator}
+use Rattle.record_fields.proofs.Pieces.{count_before_tail}
+use borrow.Author.Rules.{rules}
+use Rattle.record_fields.proofs.field_end.Goals as goal
+
+pub overflow_add-result : goal.overflow_add-result
+unfolding choose
+overflow_add-result c = omega (arith, (count_before_tail separator _ _ _ _ c.tail.ensures c.requires c.run.ensures).1)
+
+pub returns : goal.returns
+unfolding choose
+returns c = count_before_tail separator _ _ _ _ c.tail.ensures c.requires c.run.ensures

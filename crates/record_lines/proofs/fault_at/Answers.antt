@@ -1,0 +1,11 @@
+use borrow.Author.Rules.{rules}
+use Rattle.record_lines.proofs.fault_at.Goals as goal
+
+pub returns-in-Value : goal.returns-in-Value
+returns-in-Value c = rw c.enum_told-1.given.1
+
+pub returns-in-TooLarge : goal.returns-in-TooLarge
+returns-in-TooLarge c = rw c.enum_told-in-TooLarge-1.given.1
+
+pub returns-in-NotOne : goal.returns-in-NotOne
+returns-in-NotOne c = rw c.enum_told-in-NotOne-1.given.1

@@ -1,0 +1,8 @@
+use mathlib.Core.Path.{◌∙◌}
+use Rattle.record_lines.specs.Lines.{value_at}
+use borrow.Author.Rules.{rules}
+use Rattle.record_lines.proofs.value_at.Goals as goal
+
+pub returns : goal.returns
+unfolding value_at
+returns c = c.value_of_lem.ensures ∙ rw (c.read_number.ensures, c.field.ensures)

@@ -1,0 +1,8 @@
+use native.Mathlib.Omega.{arith}
+use lib.ListN.{get_or-replicate}
+use Rattle.slices.proofs.Parts.{words_padded}
+use borrow.Author.Rules.{rules}
+use Rattle.slices.proofs.padded_words.Goals as goal
+
+pub returns : goal.returns
+returns c = words_padded _ _ _ _ (omega arith) (λ x l. get_or-replicate 16 x 0 0 l) c.copy_in.ensures c.first_words.ensures

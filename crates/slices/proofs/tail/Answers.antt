@@ -1,0 +1,6 @@
+use Rattle.slices.proofs.Parts.{tail_is}
+use borrow.Author.Rules.{rules}
+use Rattle.slices.proofs.tail.Goals as goal
+
+pub returns : goal.returns
+returns c = tail_is _ _ _ c.least-from.ensures

@@ -1,0 +1,12 @@
+use Prim.Native.Nat.{◌+◌, ◌-◌, ◌≤◌}
+use Rattle.stores.proofs.Written.{Written, written_none, copy_of, copied_more, copied_taken}
+use native.Mathlib.Omega.{arith}
+use borrow.Author.Rules.{rules}
+use Rattle.stores.proofs.copy_bytes.Given as goal
+
+-- so far i bytes are copied
+abbrev pub invariant-loop-i : goal.invariant-loop-i
+invariant-loop-i l = (l.i ≤ l.n) × Written (copy_of l.at l.from) l.at (l.at + l.i) l.initial.to l.to
+
+abbrev pub decreases-loop-i : goal.decreases-loop-i
+decreases-loop-i l = l.n - l.i

@@ -1,0 +1,15 @@
+use mathlib.Core.Path.{refl}
+use Prim.Native.Nat.{◌-◌, ◌≤◌, max}
+use Rattle.stores.proofs.Written.{Written, written_none, written_more, filled_is}
+use native.Mathlib.Omega.{arith}
+use borrow.Author.Rules.{rules}
+use Rattle.stores.proofs.fill.Goals as goal
+
+pub loop-i-init : goal.loop-i-init
+loop-i-init c = (search rules, omega arith, written_none _ _ _ _ refl)
+
+pub loop-i-preserved : goal.loop-i-preserved
+loop-i-preserved c = (omega arith, omega arith, written_more c.loop-i.invariant.2 _ refl refl (omega arith))
+
+pub returns : goal.returns
+returns c = filled_is _ _ c.loop-i.invariant.2 (omega arith)

@@ -1,0 +1,13 @@
+use mathlib.Core.Path.{refl}
+use Prim.Native.Nat.{◌-◌, ◌≤◌, max}
+use Rattle.stores.proofs.Written.{Written, written_none, written_more, filled_is}
+use native.Mathlib.Omega.{arith}
+use borrow.Author.Rules.{rules}
+use Rattle.stores.proofs.fill.Given as goal
+
+-- so far the bytes from `from` up to i are filled
+abbrev pub invariant-loop-i : goal.invariant-loop-i
+invariant-loop-i l = (l.from ≤ l.i) × (l.i ≤ max l.from l.end) × Written (λ k. l.value) l.from l.i l.initial.bytes l.bytes
+
+abbrev pub decreases-loop-i : goal.decreases-loop-i
+decreases-loop-i l = l.end - l.i

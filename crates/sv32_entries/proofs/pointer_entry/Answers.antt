@@ -1,0 +1,7 @@
+use Rattle.rules.specs.Entries.{pointer_entry}
+use borrow.Author.Rules.{rules}
+use Rattle.sv32_entries.proofs.pointer_entry.Goals as goal
+
+pub returns : goal.returns
+unfolding pointer_entry
+returns c = search rules

@@ -1,0 +1,9 @@
+use borrow.Author.Rules.{rules}
+use Rattle.rules.specs.Entries.{satp_of}
+use Rattle.sv32_entries.proofs.satp_word.Reads as reads
+use Rattle.sv32_entries.proofs.satp_word.Lts as lts
+use Rattle.sv32_entries.proofs.satp_word.Goals as goal
+
+pub returns : goal.returns
+unfolding satp_of
+returns c = search rules

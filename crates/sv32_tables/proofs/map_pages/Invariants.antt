@@ -1,0 +1,16 @@
+use mathlib.Core.Path.{◌∙◌}
+use Prim.Native.Nat.{◌+◌, ◌-◌, ◌*◌, ◌%◌}
+use borrow.Author.Count.{falls}
+use Rattle.rules.specs.Entries.{page_entry}
+use Rattle.sv32_tables.specs.Filled.{nth_page, pages_mapped}
+use Rattle.sv32_tables.proofs.Filling.{Filling, filling_none, filling_more, filling_through}
+use borrow.Author.Rules.{rules}
+use Rattle.sv32_tables.proofs.map_pages.Given as goal
+
+-- so far the pages below index i are mapped
+abbrev pub invariant-loop-i : goal.invariant-loop-i
+invariant-loop-i l =
+    Filling (λ k. page_entry (nth_page l.first.0 l.rises (1024 * l.slot + k - l.start) % 0x40_0000) l.rights) l.initial.i l.end l.i l.initial.entries l.entries
+
+abbrev pub decreases-loop-i : goal.decreases-loop-i
+decreases-loop-i l = l.end - l.i
