@@ -16,4 +16,4 @@ page_of r f i k =
 pub page_of_record : {b : List ℕ} {n : ℕ} {r : Section} (start : ℕ) (f : List ℕ) (i k : ℕ) → IsSection b n r
     → page_of r f i k ≡ section_page_byte (image_of b start f) n i k
 unfolding page_of section_page_byte
-page_of_record start f i k s = rw (s.no_copy, s.address_is, s.size_is, s.flash_offset)
+page_of_record start f i k s = rw (s.no_copy_is, s.address_is, s.size_is, s.flash_offset)

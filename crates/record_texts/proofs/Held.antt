@@ -55,9 +55,9 @@ put_one xs at w h = record {
     ]
 
 -- A LINE OF ANOTHER KIND has no words
-pub process_none : (l : Line) → OneOf (0 ∷ 2 ∷ 3 ∷ 4 ∷ 5 ∷ 6 ∷ 7 ∷ []) (tag_of the_type l) → process_words l ≡ []
+pub process_none : (l : Line) → ((a b c d : ℕ) → l ≡ Process a b c d → ⊥) → process_words l ≡ []
 process_none Empty h = refl
-process_none (Process a b c d) h = absurd (miss (0 ∷ 2 ∷ 3 ∷ 4 ∷ 5 ∷ 6 ∷ 7 ∷ []) 1 tt h)
+process_none (Process a b c d) h = absurd (h a b c d refl)
 process_none (Section a b c d) h = refl
 process_none (Region a b) h = refl
 process_none UnknownWord h = refl
@@ -65,21 +65,21 @@ process_none (WrongCount n m) h = refl
 process_none (NotNumber k) h = refl
 process_none (TooLarge k) h = refl
 
-pub section_none : (l : Line) → OneOf (0 ∷ 1 ∷ 3 ∷ 4 ∷ 5 ∷ 6 ∷ 7 ∷ []) (tag_of the_type l) → section_words l ≡ []
+pub section_none : (l : Line) → ((a b c d : ℕ) → l ≡ Section a b c d → ⊥) → section_words l ≡ []
 section_none Empty h = refl
 section_none (Process a b c d) h = refl
-section_none (Section a b c d) h = absurd (miss (0 ∷ 1 ∷ 3 ∷ 4 ∷ 5 ∷ 6 ∷ 7 ∷ []) 2 tt h)
+section_none (Section a b c d) h = absurd (h a b c d refl)
 section_none (Region a b) h = refl
 section_none UnknownWord h = refl
 section_none (WrongCount n m) h = refl
 section_none (NotNumber k) h = refl
 section_none (TooLarge k) h = refl
 
-pub region_none : (l : Line) → OneOf (0 ∷ 1 ∷ 2 ∷ 4 ∷ 5 ∷ 6 ∷ 7 ∷ []) (tag_of the_type l) → region_words l ≡ []
+pub region_none : (l : Line) → ((a b : ℕ) → l ≡ Region a b → ⊥) → region_words l ≡ []
 region_none Empty h = refl
 region_none (Process a b c d) h = refl
 region_none (Section a b c d) h = refl
-region_none (Region a b) h = absurd (miss (0 ∷ 1 ∷ 2 ∷ 4 ∷ 5 ∷ 6 ∷ 7 ∷ []) 3 tt h)
+region_none (Region a b) h = absurd (h a b refl)
 region_none UnknownWord h = refl
 region_none (WrongCount n m) h = refl
 region_none (NotNumber k) h = refl

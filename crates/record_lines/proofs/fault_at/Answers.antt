@@ -2,10 +2,10 @@ use borrow.Author.Rules.{rules}
 use Rattle.record_lines.proofs.fault_at.Goals as goal
 
 pub returns-in-Value : goal.returns-in-Value
-returns-in-Value c = rw c.enum_told-1.given.1
+returns-in-Value c = rw c.in-Value.is
 
 pub returns-in-TooLarge : goal.returns-in-TooLarge
-returns-in-TooLarge c = rw c.enum_told-in-TooLarge-1.given.1
+returns-in-TooLarge c = rw c.in-TooLarge.is
 
 pub returns-in-NotOne : goal.returns-in-NotOne
-returns-in-NotOne c = rw c.enum_told-in-NotOne-1.given.1
+returns-in-NotOne c = rw c.in-NotOne.is

@@ -5,4 +5,4 @@ use Rattle.record_lines.proofs.value_at.Goals as goal
 
 pub returns : goal.returns
 unfolding value_at
-returns c = c.value_of_lem.ensures ∙ rw (c.read_number.ensures, c.field.ensures)
+returns c = c.value_of.ensures ∙ rw (c.read_number.ensures, c.field.ensures)

@@ -17,4 +17,4 @@ returns-in-Pointer c = search rules
 
 pub returns-in-Page : goal.returns-in-Page
 unfolding leaf_answer
-returns-in-Page c = c.page_answer.ensures ∙ sym (ap leaf_answer c.e-1.given.1)
+returns-in-Page c = c.page_answer.ensures ∙ sym (ap leaf_answer c.in-Page.is)

@@ -15,12 +15,12 @@ returns-in-Reserved c = search rules
 
 pub returns-in-Pointer : goal.returns-in-Pointer
 unfolding root_answer
-returns-in-Pointer c = c.leaf_answer.ensures ∙ ap leaf_answer c.table_entry.ensures ∙ sym (ap (root_answer _ _) c.e-1.given.1)
+returns-in-Pointer c = c.leaf_answer.ensures ∙ ap leaf_answer c.table_entry.ensures ∙ sym (ap (root_answer _ _) c.in-Pointer.is)
 
 pub returns-then-n-eq0 : goal.returns-then-n-eq0
 unfolding root_answer choose
-returns-then-n-eq0 c = c.page_answer.ensures ∙ sym (ap (root_answer _ _) c.e-in-Page-1.given.1 ∙ simp (eq-eqb _ _ c.if-n-eq0.true))
+returns-then-n-eq0 c = c.page_answer.ensures ∙ sym (ap (root_answer _ _) c.in-Page.is ∙ simp (eq-eqb _ _ c.if-n-eq0.true))
 
 pub returns-else-n-eq0 : goal.returns-else-n-eq0
 unfolding root_answer choose
-returns-else-n-eq0 c = sym (ap (root_answer _ _) c.e-in-Page-1.given.1 ∙ simp (ne_eqb _ _ c.if-n-eq0.false))
+returns-else-n-eq0 c = sym (ap (root_answer _ _) c.in-Page.is ∙ simp (ne_eqb _ _ c.if-n-eq0.false))

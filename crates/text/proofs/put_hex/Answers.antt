@@ -6,4 +6,4 @@ use Rattle.text.proofs.put_hex.Goals as goal
 pub returns : goal.returns
 returns c =
     let d = c.hex-count in
-    rw (numeral_is 16 _ _ _ (omega arith) (omega arith) d.ensures.1.0 d.ensures.1.1) at c.put.ensures
+    rw (numeral_is 16 _ _ _ (omega arith) (omega arith) d.ensures.len d.ensures.digits) at c.put.ensures

@@ -1,0 +1,14 @@
+use mathlib.Core.Path.{◌≡◌, sym}
+use Prim.Native.Nat.{◌≤◌, ◌*◌, ◌-◌}
+use native.Mathlib.Omega.{arith}
+use borrow.Author.Rules.{rules}
+use Rattle.rules.specs.Refusals.{sections_before}
+use Rattle.accepted.specs.Sections.{sections_before_none, sections_before_next}
+use Rattle.check_processes.proofs.sections_before.Given as goal
+
+-- so far the sections of the process records below i
+abbrev pub invariant-loop-i : goal.invariant-loop-i
+invariant-loop-i l = (l.i ≤ l.n) × (l.sum ≡ sections_before l.block l.i) × (l.sum ≤ 4294967295 * l.i)
+
+abbrev pub decreases-loop-i : goal.decreases-loop-i
+decreases-loop-i l = l.n - l.i

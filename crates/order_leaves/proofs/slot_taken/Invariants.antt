@@ -1,0 +1,15 @@
+use mathlib.Core.Path.{◌≡◌, refl, sym, ◌∙◌}
+use Prim.Native.Nat.{◌≤◌}
+use Rattle.order_leaves.specs.TakenSlots.{slot_taken}
+use Rattle.order_leaves.proofs.TakenSlots.{taken_none, taken_last}
+use Rattle.laws.specs.Choice.{choose_yes, choose_no}
+use native.Mathlib.Omega.{arith}
+use borrow.Author.Rules.{rules}
+use Rattle.order_leaves.proofs.slot_taken.Given as goal
+
+-- the records from number i on have no page in the slot
+abbrev pub invariant-loop-i : goal.invariant-loop-i
+invariant-loop-i l = (l.i ≤ l.k) × (slot_taken l.block l.first l.k l.m ≡ slot_taken l.block l.first l.i l.m)
+
+abbrev pub decreases-loop-i : goal.decreases-loop-i
+decreases-loop-i l = l.i

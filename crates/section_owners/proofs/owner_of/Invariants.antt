@@ -1,0 +1,13 @@
+use mathlib.Core.Path.{sym, ◌∙◌}
+use Prim.Native.Nat.{◌<◌}
+use native.Mathlib.Omega.{arith}
+use borrow.Author.Rules.{rules}
+use Rattle.section_owners.proofs.Owners.{Searched, owner_here, owner_below, owner_none}
+use Rattle.section_owners.proofs.owner_of.Given as goal
+
+-- the owner is one of the first q processes, if there is one
+abbrev pub invariant-loop-q : goal.invariant-loop-q
+invariant-loop-q l = Searched l.block l.n l.q × (l.q < 0x1_0000_0000)
+
+abbrev pub decreases-loop-q : goal.decreases-loop-q
+decreases-loop-q l = l.q

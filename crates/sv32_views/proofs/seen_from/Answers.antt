@@ -1,0 +1,8 @@
+use mathlib.Core.Path.{ap, ◌∙◌}
+use Rattle.rules.specs.Sees.{shown, seen_from}
+use borrow.Author.Rules.{rules}
+use Rattle.sv32_views.proofs.seen_from.Goals as goal
+
+pub returns : goal.returns
+unfolding seen_from
+returns c = c.shown.ensures ∙ ap (shown _ _ _) c.walk-found.ensures

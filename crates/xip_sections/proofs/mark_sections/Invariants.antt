@@ -1,0 +1,14 @@
+use mathlib.Core.Path.{refl, ◌∙◌}
+use Prim.Native.Nat.{◌-◌, ◌≤◌}
+use lib.ListN.{length}
+use Rattle.stores.proofs.Written.{Written, written_none, written_more, written_all}
+use Rattle.xip_sections.specs.Marks.{mark_of, marks_of}
+use native.Mathlib.Omega.{arith}
+use borrow.Author.Rules.{rules}
+use Rattle.xip_sections.proofs.mark_sections.Given as goal
+
+abbrev pub invariant-loop-n : goal.invariant-loop-n
+invariant-loop-n l = (l.n ≤ length l.initial.xip) × Written (mark_of l.block l.flash) 0 l.n l.initial.xip l.xip
+
+abbrev pub decreases-loop-n : goal.decreases-loop-n
+decreases-loop-n l = length l.initial.xip - l.n
