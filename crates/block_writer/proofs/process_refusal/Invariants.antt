@@ -1,0 +1,19 @@
+use mathlib.Core.Path.{◌≡◌, ◌∙◌}
+use Prim.Native.Nat.{◌-◌, ◌*◌, ◌≤◌}
+use native.Mathlib.Nat.{sub-zero}
+use native.Mathlib.Omega.{arith}
+use borrow.Author.Rules.{rules}
+use Rattle.rules.specs.Refusals.{refused, accepted, first_record, first_refusal}
+use Rattle.accepted.specs.InOrder.{scan_end, scan_next, scan_stop}
+use Rattle.block_writer.specs.Lists.{sections_before_in, check_in, process_refusal}
+use Rattle.block_writer.proofs.Refusing.{sections_none, sections_next, checked_in, offset_fits}
+use Rattle.block_writer.proofs.process_refusal.Given as goal
+
+-- the records from i on give what all give, and `before` is the sum of the section counts below i
+abbrev pub invariant-loop-i : goal.invariant-loop-i
+invariant-loop-i l =
+    (l.i ≤ l.p) × (l.before ≡ sections_before_in l.processes l.i) × (l.before ≤ 4294967295 * l.i)
+    × (first_record (check_in l.processes l.s) l.i (l.p - l.i) accepted ≡ process_refusal l.processes l.s)
+
+abbrev pub decreases-loop-i : goal.decreases-loop-i
+decreases-loop-i l = l.p - l.i

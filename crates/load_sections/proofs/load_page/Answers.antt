@@ -1,0 +1,8 @@
+use Rattle.writing.specs.Pages.{put_part}
+use borrow.Author.Rules.{rules}
+use Rattle.load_sections.proofs.load_page.Goals as goal
+
+pub returns : goal.returns
+returns c =
+    let at-page = c in
+    put_part _ _ _ _ _ _ at-page.least-from.ensures at-page.least-to.ensures c.section_page.ensures

@@ -1,0 +1,21 @@
+use Prim.Native.Nat.{◌-◌, ◌≤◌}
+use Rattle.notation.specs.Lists.{gather}
+use Rattle.writing.specs.Uses.{Wrote, wrote_gather_none, wrote_gather_next}
+use Rattle.writing.specs.Loaded.{section_content}
+use Rattle.xip_sections.specs.Marks.{marked}
+use Rattle.rules.specs.Order.{section_pages}
+use Rattle.load_sections.proofs.Turns.{process_end}
+use native.Mathlib.Omega.{arith}
+use borrow.Author.Rules.{rules}
+use Rattle.load_sections.proofs.load_process.Goals as goal
+
+pub loop-j-init : goal.loop-j-init
+loop-j-init c = (search rules, wrote_gather_none _ _ _ _)
+
+pub loop-j-preserved : goal.loop-j-preserved
+loop-j-preserved c =
+    let call = c in
+    (omega arith, wrote_gather_next _ _ _ call.loop-j.invariant.1 call.load_section-next.ensures)
+
+pub returns : goal.returns
+returns c = process_end _ _ _ _ _ c.loop-j.invariant.1 (omega (arith, c.read_process-process.ensures.sections_of_is))

@@ -1,0 +1,11 @@
+use mathlib.Core.Path.{◌≡◌, refl}
+use Rattle.notation.specs.Choice.{choose}
+use Rattle.laws.specs.Choice.{by_test}
+use mathlib.Core.Bool.{true, false}
+use Rattle.rules.specs.Space.{kernel_read, kernel_write}
+use Rattle.loader.proofs.leaf_entries.kernel_rights.Goals as goal
+
+pub returns : goal.returns
+unfolding choose kernel_read kernel_write
+returns c =
+    by_test (λ w. record { read = true; write = w; execute = false; user = false } ≡ choose w kernel_write kernel_read) c.args.write (λ _. refl) (λ _. refl)

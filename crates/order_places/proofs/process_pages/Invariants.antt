@@ -1,0 +1,14 @@
+use mathlib.Core.Path.{◌≡◌, sym}
+use Prim.Native.Nat.{◌-◌, ◌*◌, ◌≤◌}
+use Rattle.order_laws.specs.Places.{pages_before, pages_before_none}
+use Rattle.xip_sections.specs.Marks.{marked}
+use Rattle.order_places.proofs.ProcessPages.{one_more, all_pages}
+use native.Mathlib.Omega.{arith}
+use borrow.Author.Rules.{rules}
+use Rattle.order_places.proofs.process_pages.Given as goal
+
+abbrev pub invariant-loop-j : goal.invariant-loop-j
+invariant-loop-j l = (l.j ≤ l.count) × (l.pages ≡ pages_before l.block (marked l.xip) l.q l.j) × (l.pages ≤ 0x20_0000 * l.j)
+
+abbrev pub decreases-loop-j : goal.decreases-loop-j
+decreases-loop-j l = l.count - l.j

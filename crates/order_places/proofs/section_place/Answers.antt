@@ -1,0 +1,8 @@
+use Rattle.order_laws.specs.Places.{section_place}
+use native.Mathlib.Omega.{arith}
+use borrow.Author.Rules.{rules}
+use Rattle.order_places.proofs.section_place.Goals as goal
+
+pub returns : goal.returns
+unfolding section_place
+returns c = omega (arith, rw c.users_before-users.ensures.0 at c.user_pages.ensures)

@@ -1,0 +1,14 @@
+use mathlib.Core.Path.{◌≡◌}
+use Prim.Native.Nat.{◌-◌, ◌≤◌}
+use Rattle.order_laws.specs.Places.{user_pages, user_pages_none, user_pages_next}
+use Rattle.xip_sections.specs.Marks.{marked}
+use Rattle.order_places.specs.Capped.{capped}
+use native.Mathlib.Omega.{arith}
+use borrow.Author.Rules.{rules}
+use Rattle.order_places.proofs.user_pages.Given as goal
+
+abbrev pub invariant-loop-i : goal.invariant-loop-i
+invariant-loop-i l = (l.i ≤ l.n) × (l.pages ≡ capped (user_pages l.block (marked l.xip) l.i))
+
+abbrev pub decreases-loop-i : goal.decreases-loop-i
+decreases-loop-i l = l.n - l.i
