@@ -1,0 +1,7 @@
+use mathlib.Core.Path.{ap}
+use Rattle.types.specs.declared.Answer.{Answer}
+use borrow.Author.Rules.{rules}
+use Rattle.rigpollen.proofs.rigpollen_load.Goals as goal
+
+pub returns : goal.returns
+returns c = (ap (λ (a : Answer). a.number) c.load-answer.ensures.0, c.load-answer.ensures.1)

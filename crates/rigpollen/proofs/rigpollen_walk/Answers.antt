@@ -1,0 +1,5 @@
+use borrow.Author.Rules.{rules}
+use Rattle.rigpollen.proofs.rigpollen_walk.Goals as goal
+
+pub returns : goal.returns
+returns c = rw (← c.walk-entry.ensures) c.tell_entry.ensures
