@@ -1,5 +1,6 @@
-// The entries for C. A slice passes as a pointer and then a length.
+// The loader, the reader and the block writer as the entries for C have them; `rigpollen_c` hands each on to C.
 #![tactic(auto)]
+
 ghost use Rattle.std.specs.Prelude.{◌≡◌, length, set};
 ghost use Rattle.std.proofs.lemmas.List.Edits.{sets};
 ghost use Rattle.rules.specs.Lent.{image_of, memory_of, area_of};
@@ -26,8 +27,7 @@ fn put(words: &mut [u32], at: usize, word: u32)
 
 // Loads the block's programs into RAM, at physical address `ram_start`, from flash, at `flash_start`; what can be used straight from flash
 // is mapped there. Returns 0, or the number of the refusal, which leaves RAM as it came.
-#[unsafe(no_mangle)]
-pub extern "C" fn rigpollen_load(
+pub fn rigpollen_load(
     block: &[u8],
     flash: &[u8],
     flash_start: u32,
@@ -55,8 +55,7 @@ fn tell_answer(full: Answer, words: &mut [u32])
 
 // The same load. Number, place, pages taken, pages free, tracker pages and offset are put into `answer`, as many as fit; what lies
 // beyond stays.
-#[unsafe(no_mangle)]
-pub extern "C" fn rigpollen_answer(
+pub fn rigpollen_answer(
     block: &[u8],
     flash: &[u8],
     flash_start: u32,
@@ -75,8 +74,7 @@ pub extern "C" fn rigpollen_answer(
 
 // The answer that the load would give on RAM of `ram_length` bytes from `ram_start` on, with no RAM lent. It is put into `answer` as
 // `rigpollen_answer` puts it.
-#[unsafe(no_mangle)]
-pub extern "C" fn rigpollen_check(
+pub fn rigpollen_check(
     block: &[u8],
     flash: &[u8],
     flash_start: u32,
@@ -105,8 +103,7 @@ fn tell_process(block: &[u8], q: u32, root: PhysPage, words: &mut [u32])
 // What a process starts with, where the block boots on RAM of `ram_length` bytes from `ram_start` on: its satp word, entry point and
 // stack pointer are put into `words`, as many as fit, as the process list has them. Returns 0; else the number of the refusal, or 31
 // where there is no such process, and `words` stays.
-#[unsafe(no_mangle)]
-pub extern "C" fn rigpollen_process(
+pub fn rigpollen_process(
     block: &[u8],
     flash: &[u8],
     flash_start: u32,
@@ -160,14 +157,7 @@ fn tell_entry(entry: Entry, page: &mut [u32]) -> u32
 // Walks the tables from the root at physical page number `root` at an address: 0 absent, 1 reserved, 2 a page. Of a page its
 // rights (read 1, write 2, execute 4, user 8) and its physical page number are put into `page`, as many as fit; otherwise `page`
 // stays.
-#[unsafe(no_mangle)]
-pub extern "C" fn rigpollen_walk(
-    ram: &[u8],
-    ram_start: u32,
-    root: u32,
-    address: u32,
-    page: &mut [u32],
-) -> u32
+pub fn rigpollen_walk(ram: &[u8], ram_start: u32, root: u32, address: u32, page: &mut [u32]) -> u32
     ensures { (result ≡ entry_number (walk (memory_of ram_start ram.now) root address))
         × (page.new ≡ sets page.old 0 (entry_words (walk (memory_of ram_start ram.now) root address))) }
 {
@@ -178,8 +168,7 @@ pub extern "C" fn rigpollen_walk(
 // The bytes of the page at an address, by way of a root table in RAM, are put into `bytes`, as many as fit; what lies beyond stays. They
 // are RAM's if the page is wholly in RAM, else flash's if it is wholly in flash. Returns 4,096, where fewer fit too; else 0, and
 // `bytes` stays: there is no page, or it lies wholly in neither.
-#[unsafe(no_mangle)]
-pub extern "C" fn rigpollen_page<'a>(
+pub fn rigpollen_page<'a>(
     ram: &'a [u8],
     ram_start: u32,
     flash: &'a [u8],
@@ -208,8 +197,7 @@ fn tell_written(full: Written, words: &mut [u32])
 
 // Writes the boot block of these records to the start of `buffer`; bytes beyond it stay. Number, place, length and offset are put into
 // `answer`, as many as fit; what lies beyond stays. Returns 0; else the number of the refusal, which leaves `buffer` as it came.
-#[unsafe(no_mangle)]
-pub extern "C" fn rigpollen_write_block(
+pub fn rigpollen_write_block(
     processes: &[u32],
     sections: &[u32],
     regions: &[u32],
