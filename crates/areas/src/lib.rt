@@ -1,5 +1,6 @@
 // Areas of physical addresses: any start and any length. A start and a length are not added, since the sum might wrap.
 #![tactic(auto)]
+
 ghost use Rattle.std.specs.Prelude.{◌≡◌};
 ghost use Rattle.rules.specs.Lent.{share_address};
 

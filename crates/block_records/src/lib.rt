@@ -1,5 +1,6 @@
 // The boot block's records, read from any bytes: what lies past their end counts as 0.
 #![tactic(auto)]
+
 ghost use Rattle.std.specs.Prelude.{◌≡◌, ℕ, ◌+◌};
 ghost use Rattle.notation.specs.Words.{word};
 ghost use Rattle.rules.specs.Block.{kind_of, stack_bits, stack_pages, section_at};

@@ -1,5 +1,6 @@
 // The block writer: from lists of records to a boot block in a lent buffer. A refusal leaves the buffer as it came.
 #![tactic(auto)]
+
 ghost use Rattle.std.specs.Prelude.{◌++◌, ◌≡◌, ◌+◌, ◌*◌, ◌≤◌, length, take, drop};
 ghost use Rattle.notation.specs.Words.{bytes_of};
 ghost use Rattle.rules.specs.Writer.{records_in, header_words, lists_unfit, writer_verdict, written, buffer_after};

@@ -1,6 +1,7 @@
 // Refusals 1, 13 and 2 to 5: RAM's place and size, flash's place, a short block, the format, the counts, and the layout. Each function
 // answers for any input.
 #![tactic(auto)]
+
 ghost use Rattle.std.specs.Prelude.{◌≡◌, ltb};
 ghost use Rattle.rules.specs.Lent.{end_of};
 ghost use Rattle.rules.specs.Refusals.{ram_unfit, flash_unfit, block_too_short, format_unknown, outside, counts_outside, counts_out_of_bounds, layout_not_tight};

@@ -1,5 +1,6 @@
 // Refusals 6 and 10: process records and entry points. Each function answers for any block and any number.
 #![tactic(auto)]
+
 ghost use Rattle.std.specs.Prelude.{◌&&◌, ◌≡◌, ◌+◌, ◌*◌, ◌≤◌, leb, ltb};
 ghost use Rattle.notation.specs.Choice.{choose};
 ghost use Rattle.rules.specs.Block.{process_at, address, executable, section_end};

@@ -1,5 +1,6 @@
 // Refusal 11: region records. Each function answers for any block, any flash, any RAM and any number.
 #![tactic(auto)]
+
 ghost use Rattle.std.specs.Prelude.{not, ◌&&◌, [], ◌∷◌, ◌≡◌, ◌-◌, ◌%◌, eqb, ltb};
 ghost use Rattle.notation.specs.Choice.{any};
 ghost use Rattle.rules.specs.Lent.{end_of};

@@ -1,5 +1,6 @@
 // Refusals 7, 8 and 9: section records. Each function answers for any block and any number.
 #![tactic(auto)]
+
 ghost use Rattle.std.specs.Prelude.{not, ◌&&◌, [], ◌∷◌, ◌≡◌, ◌+◌, ◌-◌, eqb, leb, ltb};
 ghost use Rattle.notation.specs.Choice.{any};
 ghost use Rattle.rules.specs.Block.{first_section_of, first_page_of, last_page_of};

@@ -1,5 +1,6 @@
 // The answer to a load: the first of 01's refusals, in 01's order, that is given, or the counts of pages. What is lent here is only read.
 #![tactic(auto)]
+
 ghost use Rattle.std.specs.Prelude.{[], ◌∷◌, ◌≡◌, ◌≤◌, length};
 ghost use Rattle.rules.specs.Lent.{image_of, area_of};
 ghost use Rattle.rules.specs.Block.{process_count};

@@ -3,6 +3,7 @@
 // bytes, which lie in flash as in their pages, with zeros around them: both are used in place. B is copied, since the kernel's bytes
 // are on its flash page, and C, since the image ends in its flash page.
 #![tactic(auto)]
+
 ghost use Rattle.std.specs.Prelude.{◌≡◌, length};
 
 use libc::STDOUT_FILENO;

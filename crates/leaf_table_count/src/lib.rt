@@ -1,5 +1,6 @@
 // The count of leaf tables, to be measured; `leaf_table_count_c` hands it on to C.
 #![tactic(auto)]
+
 ghost use Rattle.std.specs.Prelude.{◌≡◌, length, ltb};
 ghost use Rattle.notation.specs.Choice.{choose};
 ghost use Rattle.rules.specs.Block.{sections_of};

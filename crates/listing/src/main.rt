@@ -3,6 +3,7 @@
 // lists the small board; with -h or --help alone it prints how it is called. What is wrong with an argument is said in one line on
 // standard error, and nothing else is printed.
 #![tactic(auto)]
+
 ghost use Rattle.std.specs.Prelude.{◌≡◌, length, ◌≤◌};
 
 use libc::{STDERR_FILENO, STDOUT_FILENO};

@@ -1,5 +1,6 @@
 // The bytes of pages. A page is any lent bytes: the loader lends 4,096 of RAM.
 #![tactic(auto)]
+
 ghost use Rattle.std.specs.Prelude.{◌≡◌, length, get_or};
 ghost use Rattle.notation.specs.Lists.{tab};
 ghost use Rattle.load_page.specs.Pages.{page_of};

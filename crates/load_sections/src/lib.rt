@@ -1,6 +1,7 @@
 // The pages of all sections, loaded into RAM from the top down. RAM may be any bytes: a page that it has not is left out. `xip` marks the
 // sections that are used in place: they take no page.
 #![tactic(auto)]
+
 ghost use Rattle.std.specs.Prelude.{◌≡◌, ◌&&◌, ◌+◌, ◌*◌, ◌≤◌, leb, length};
 ghost use Rattle.rules.specs.Order.{section_pages, section_uses, all_sections};
 ghost use Rattle.writing.specs.Pages.{put};

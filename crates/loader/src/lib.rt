@@ -1,5 +1,6 @@
 // The loader: everything is checked before anything is written; then the pages are written in the order of pages.
 #![tactic(auto)]
+
 ghost use Rattle.std.specs.Prelude.{◌≡◌, ◌-◌, ◌/◌, length, get_or};
 ghost use Rattle.rules.specs.Lent.{image_of, memory_of, area_of};
 ghost use Rattle.rules.specs.InPlace.{in_place};

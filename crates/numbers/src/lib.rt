@@ -1,5 +1,6 @@
 // Numbers, bits and truth values: each function answers for any input, and nothing wraps.
 #![tactic(auto)]
+
 ghost use Rattle.std.specs.Prelude.{◌&&◌, ◌≡◌, ◌-◌, ◌≤◌, min, max};
 ghost use Rattle.notation.specs.Choice.{choose};
 ghost use Rattle.notation.specs.Words.{bit};

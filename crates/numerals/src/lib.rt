@@ -1,5 +1,6 @@
 // A number that a text spells: the public function answers for any text.
 #![tactic(auto)]
+
 ghost use Rattle.std.specs.Prelude.{◌≡◌, ◌≤◌, min};
 ghost use Rattle.numerals.specs.Numerals.{between, digit, spelled, value_from, in_base, marked, number_of};
 

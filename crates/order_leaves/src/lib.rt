@@ -1,5 +1,6 @@
 // How many tables a process has, counted by root slot, section by section. Nothing here goes page by page.
 #![tactic(auto)]
+
 ghost use Rattle.std.specs.Prelude.{◌≡◌, length};
 ghost use Rattle.rules.specs.Order.{table_uses};
 ghost use Rattle.order_leaves.specs.TakenSlots.{slot_taken, with_slots, IsTaken};

@@ -1,6 +1,7 @@
 // Places in the order of pages: how many uses stand before a use, and what page that is. A place is told as at most 65,536,
 // which is past any RAM, so that any block has an answer. `xip` marks the sections that are used in place.
 #![tactic(auto)]
+
 ghost use Rattle.std.specs.Prelude.{◌≡◌, ◌+◌, ◌-◌, ◌≤◌, eqb};
 ghost use Rattle.notation.specs.Choice.{choose};
 ghost use Rattle.rules.specs.Block.{process_count};

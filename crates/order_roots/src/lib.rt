@@ -1,5 +1,6 @@
 // Where a process's root table is, by the order of pages.
 #![tactic(auto)]
+
 ghost use Rattle.std.specs.Prelude.{◌≡◌};
 ghost use Rattle.rules.specs.Lent.{image_of, area_of};
 ghost use Rattle.order_roots.specs.Roots.{root_found};

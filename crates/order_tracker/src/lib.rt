@@ -1,5 +1,6 @@
 // How many I/O pages the block's regions have, and how many pages the page tracker has.
 #![tactic(auto)]
+
 ghost use Rattle.std.specs.Prelude.{◌≡◌, ◌*◌, ◌≤◌};
 ghost use Rattle.rules.specs.Block.{io_pages_of};
 ghost use Rattle.rules.specs.Order.{tracker_pages};

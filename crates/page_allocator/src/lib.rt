@@ -1,5 +1,6 @@
 // RAM's pages from the top down: the page allocator, the page at a place in the order of pages, and the physical page of each.
 #![tactic(auto)]
+
 ghost use Rattle.std.specs.Prelude.{◌≡◌, ◌+◌, ◌-◌, ◌%◌};
 
 use types::{PageRange, PhysPage, RamPage};

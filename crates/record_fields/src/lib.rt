@@ -1,5 +1,6 @@
 // The fields of a line of records: each public function answers for any input.
 #![tactic(auto)]
+
 ghost use Rattle.std.specs.Prelude.{not, ◌≡◌, [], ◌+◌, ◌≤◌, eqb, length, get_or, drop};
 ghost use Rattle.notation.specs.Choice.{choose};
 ghost use Rattle.notation.specs.Lists.{count_before};

@@ -1,5 +1,6 @@
 // What a line of records says.
 #![tactic(auto)]
+
 ghost use Rattle.std.specs.Prelude.{◌≡◌, ◌≤◌, length};
 ghost use Rattle.record_fields.specs.Fields.{fields};
 ghost use Rattle.record_lines.specs.Lines.{same, word_of, numbers_after, unread, value_of, value_at, first_unread, fault_at, record_of, numbered, line_of, faulty};

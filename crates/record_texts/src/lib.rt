@@ -1,5 +1,6 @@
 // The records of a text, a line for each.
 #![tactic(auto)]
+
 ghost use Rattle.std.specs.Prelude.{◌≡◌, [], ◌∷◌, ◌+◌, ◌≤◌, min, length, get_or, drop};
 ghost use Rattle.notation.specs.Lists.{count_before};
 ghost use Rattle.text.specs.Text.{Appended};

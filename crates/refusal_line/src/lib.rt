@@ -1,5 +1,6 @@
 // The line of a refusal, of the loader's and of the block writer's.
 #![tactic(auto)]
+
 ghost use Rattle.text.specs.Text.{Appended};
 ghost use Rattle.refusal_line.specs.Line.{refused_line};
 

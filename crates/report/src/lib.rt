@@ -1,5 +1,6 @@
 // The listing program's text: a load, and what 01 has the listing say of it.
 #![tactic(auto)]
+
 ghost use Rattle.std.specs.Prelude.{◌≡◌, ◌-◌, ◌/◌, ◌≤◌, eqb};
 ghost use Rattle.notation.specs.Choice.{choose};
 ghost use Rattle.rules.specs.Lent.{image_of, memory_of, area_of, pages_in};

@@ -1,5 +1,6 @@
 // The owners of section records. Each function answers for any block and any number.
 #![tactic(auto)]
+
 ghost use Rattle.std.specs.Prelude.{◌≡◌};
 ghost use Rattle.rules.specs.Block.{has_section, owner_of};
 

@@ -1,5 +1,6 @@
 // Bytes and words read from lent slices: each function answers for any input.
 #![tactic(auto)]
+
 ghost use Rattle.std.specs.Prelude.{◌≡◌, ◌+◌, ◌*◌, ◌≤◌, length, get_or, take, drop};
 ghost use Rattle.notation.specs.Words.{word};
 ghost use Rattle.slices.specs.Words.{AreWords};

@@ -1,5 +1,6 @@
 // The small board of 01: its boot block, where its RAM starts, and how large its flash is.
 #![tactic(auto)]
+
 ghost use Rattle.std.specs.Prelude.{◌≡◌};
 ghost use Rattle.rules.specs.Examples.{board as boardOf, small_board};
 

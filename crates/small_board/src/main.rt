@@ -1,6 +1,7 @@
 // Loads the small board of 01 and prints what that leaves in RAM: the RAM page of every use, every entry of every table that is
 // not absent, and the satp words. All is drawn from RAM by the reader, starting at the root table of process 2.
 #![tactic(auto)]
+
 use libc::STDOUT_FILENO;
 use page_allocator::physical;
 use small_block::START;

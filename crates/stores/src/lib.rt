@@ -1,5 +1,6 @@
 // Bytes stored in lent slices: each function answers for any input, and nothing past a slice's end is written.
 #![tactic(auto)]
+
 ghost use Rattle.std.specs.Prelude.{◌≡◌, ◌+◌, ◌≤◌, length, take};
 ghost use Rattle.notation.specs.Lists.{tab};
 ghost use Rattle.stores.specs.Writes.{copied, filled};

@@ -1,5 +1,6 @@
 // Page table entries of Sv32, written and read. An entry has 22 bits of page number, so a number is taken modulo 0x400000.
 #![tactic(auto)]
+
 ghost use Rattle.std.specs.Prelude.{◌≡◌, ◌+◌, ◌*◌, ◌%◌};
 ghost use Rattle.rules.specs.Entries.{pointer_entry, page_entry, decode, satp_of};
 

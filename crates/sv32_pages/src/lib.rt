@@ -1,5 +1,6 @@
 // The bytes of the page at an address, handed back uncopied: a part of RAM or of flash, over any two memories.
 #![tactic(auto)]
+
 ghost use Rattle.std.specs.Prelude.{◌≡◌};
 ghost use Rattle.rules.specs.Lent.{memory_of};
 ghost use Rattle.rules.specs.Reader.{page_in, page_bytes, entry_bytes, page_at};

@@ -1,5 +1,6 @@
 // The reader: walks page tables by the Sv32 rules, over any RAM, any start of RAM, any root table and any address.
 #![tactic(auto)]
+
 ghost use Rattle.std.specs.Prelude.{◌≡◌, ◌*◌, ◌%◌};
 ghost use Rattle.rules.specs.Lent.{memory_of};
 ghost use Rattle.rules.specs.Reader.{table_entry, page_answer, leaf_answer, root_answer, walk};

@@ -1,6 +1,7 @@
 // Page table entries written into a lent table. A table may have any length; root slot m's leaf table has the entries of
 // virtual pages 1,024 m on.
 #![tactic(auto)]
+
 ghost use Rattle.std.specs.Prelude.{◌≡◌, ◌%◌, ◌<◌, set};
 ghost use Rattle.rules.specs.Entries.{pointer_entry};
 ghost use Rattle.sv32_tables.specs.Filled.{nth_page, pages_mapped, stack_reserved};

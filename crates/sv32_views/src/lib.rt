@@ -1,5 +1,6 @@
 // What is seen by way of the reader, over any RAM, any flash, any root table and any address.
 #![tactic(auto)]
+
 ghost use Rattle.std.specs.Prelude.{◌≡◌};
 ghost use Rattle.rules.specs.Lent.{memory_of};
 ghost use Rattle.rules.specs.Sees.{shown, seen_from};

@@ -1,5 +1,6 @@
 // Text put into a lent buffer at an index, as much as there is room for. Each function answers the index after what it put.
 #![tactic(auto)]
+
 ghost use Rattle.text.specs.Text.{Appended, numeral, two_numbers};
 
 // Bytes as they are.

@@ -1,5 +1,6 @@
 // Demands 2 and 3 as calls: one load, and what a process sees after it; and the same block and flash, at one address, on two RAMs.
 #![tactic(auto)]
+
 ghost use Rattle.std.specs.Prelude.{◌≡◌};
 ghost use Rattle.rules.specs.Lent.{image_of, memory_of};
 ghost use Rattle.two_boards.specs.Promise.{seen_at, OneBoard, TwoBoards};

@@ -1,5 +1,6 @@
 // Words stored in lent slices, little-endian: each function answers for any input, and nothing past a slice's end is written.
 #![tactic(auto)]
+
 ghost use Rattle.std.specs.Prelude.{◌≡◌, ◌+◌, ◌≤◌, length};
 ghost use Rattle.word_stores.specs.Words.{with_word, with_words};
 

@@ -1,5 +1,6 @@
 // P1 to P12 of 01: the small board with one change each, listed.
 #![tactic(auto)]
+
 use libc::STDOUT_FILENO;
 
 // The small board's entry point of process 2, the address of B and the start of the region.

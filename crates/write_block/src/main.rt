@@ -1,6 +1,7 @@
 // write_block RECORDS BLOCK: writes the boot block of a text file of records, and prints what it wrote. With -h or --help alone it
 // prints how it is called. What is wrong is said in one line on standard error: no file is made then, and BLOCK keeps its bytes.
 #![tactic(auto)]
+
 ghost use Rattle.std.specs.Prelude.{◌≡◌, length};
 
 use libc::{SEEK_END, SEEK_SET, STDERR_FILENO, STDOUT_FILENO};

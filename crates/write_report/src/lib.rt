@@ -1,5 +1,6 @@
 // The block that is written from a text of records, and the reply: what is wrong with a line, the refusal, or what was written.
 #![tactic(auto)]
+
 ghost use Rattle.std.specs.Prelude.{◌≡◌, [], ◌++◌, ◌+◌, ◌/◌, ◌≤◌, min, eqb, length, get_or};
 ghost use Rattle.notation.specs.Choice.{choose};
 ghost use Rattle.notation.specs.Lists.{tab};

@@ -1,6 +1,7 @@
 // Which sections are used in place (02: straight from flash): decided for each section record once, and told by marks. Marks may be any
 // bytes.
 #![tactic(auto)]
+
 ghost use Rattle.std.specs.Prelude.{◌≡◌, ◌≤◌, length};
 ghost use Rattle.notation.specs.Choice.{choose};
 ghost use Rattle.rules.specs.InPlace.{zero_between, in_place};
