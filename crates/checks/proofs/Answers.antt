@@ -10,7 +10,6 @@ use lib.Dec.{eqb, ltb}
 use borrow.Author.Tests.{eq-eqb, ne_eqb, eqb-true, eqb-false}
 use Rattle.notation.specs.Choice.{choose}
 use Rattle.laws.specs.Choice.{by_test, by_choose, choose_yes, choose_no}
-use Rattle.laws.specs.Lists.{◌and◌}
 use Rattle.types.specs.declared.Area.{Area}
 use Rattle.types.specs.declared.Answer.{Answer}
 use Rattle.types.specs.declared.Verdict.{Verdict}

@@ -15,7 +15,7 @@ use Rattle.rules.specs.Space.{Data, Mapping, unmapped, stack, maps, in_tracker, 
 use Rattle.rules.specs.Order.{order, tracker_pages, pages_needed}
 use Rattle.rules.specs.Refusals.{block_too_short, format_unknown, counts_out_of_bounds, layout_not_tight, ram_too_small, process_unfit, process_record_check, process_check, section_refusal, section_check, entry_point_check, region_check}
 use Rattle.rules.specs.Refusals.{Check, whole, records, lent_checks, header_checks, process_checks, block_checks, content_checks, checks, verdict}
-use Rattle.rules.specs.Contents.{tracker, process_word, process_list_byte}
+use Rattle.rules.specs.Contents.{process_word, process_list_byte}
 use Rattle.rules.specs.Load.{boots, boot_answer, answer_on, answer}
 use Rattle.rules.specs.Sees.{byte_at, view_of, sees, sees_on, process_sees}
 use Rattle.rules.specs.Compare.{Compared, everything, rights_only, nothing, at_satp, compared, without_byte, Agree}

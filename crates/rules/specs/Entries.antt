@@ -20,7 +20,7 @@
 -- A, or stored to without D.
 --
 -- R, W and X all clear in a valid entry: a pointer to the next level's table. Valid clear and the whole word 22: reserved.
-use Rattle.std.specs.Prelude.{Bool, ℕ, ◌+◌, ◌*◌, ◌/◌, ◌%◌, eqb}
+use Rattle.std.specs.Prelude.{ℕ, ◌+◌, ◌*◌, ◌/◌, ◌%◌, eqb}
 use Rattle.notation.specs.Choice.{choose}
 use Rattle.notation.specs.Words.{bit}
 use Rattle.types.specs.declared.Rights.{Rights}

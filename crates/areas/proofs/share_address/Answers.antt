@@ -1,5 +1,4 @@
 use mathlib.Core.Path.{◌∙◌}
-use borrow.Author.Rules.{rules}
 use Rattle.areas.proofs.Shared.{shared}
 use Rattle.areas.proofs.share_address.Goals as goal
 

@@ -1,4 +1,3 @@
-use borrow.Author.Rules.{rules}
 use Rattle.rules.specs.Block.{process_count}
 use Rattle.block_header.proofs.process_count.Goals as goal
 

@@ -1,4 +1,3 @@
-use borrow.Author.Rules.{rules}
 use Rattle.rules.specs.Block.{region_count}
 use Rattle.block_header.proofs.region_count.Goals as goal
 

@@ -1,5 +1,4 @@
 use native.Mathlib.Omega.{arith}
-use borrow.Author.Rules.{rules}
 use Rattle.rules.specs.Block.{sections_at, regions_at}
 use Rattle.block_header.proofs.regions_at.Goals as goal
 

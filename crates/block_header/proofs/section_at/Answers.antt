@@ -1,5 +1,4 @@
 use native.Mathlib.Omega.{arith}
-use borrow.Author.Rules.{rules}
 use Rattle.rules.specs.Block.{section_at}
 use Rattle.block_header.proofs.section_at.Goals as goal
 

@@ -1,4 +1,3 @@
-use borrow.Author.Rules.{rules}
 use Rattle.rules.specs.Block.{section_count}
 use Rattle.block_header.proofs.section_count.Goals as goal
 

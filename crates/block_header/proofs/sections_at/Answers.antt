@@ -1,6 +1,5 @@
 use native.Mathlib.Omega.{arith}
 use native.Mathlib.Omega.{arith}
-use borrow.Author.Rules.{rules}
 use Rattle.rules.specs.Block.{sections_at}
 use Rattle.block_header.proofs.sections_at.Goals as goal
 

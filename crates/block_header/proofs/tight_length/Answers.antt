@@ -1,5 +1,4 @@
 use native.Mathlib.Omega.{arith}
-use borrow.Author.Rules.{rules}
 use Rattle.rules.specs.Block.{regions_at, tight_length}
 use Rattle.block_header.proofs.tight_length.Goals as goal
 

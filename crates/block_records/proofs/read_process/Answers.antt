@@ -1,4 +1,3 @@
-use borrow.Author.Rules.{rules}
 use Rattle.block_records.proofs.Processes.{process_of_record}
 use Rattle.block_records.proofs.read_process.Goals as goal
 

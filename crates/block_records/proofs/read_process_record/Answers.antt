@@ -1,4 +1,3 @@
-use borrow.Author.Rules.{rules}
 use Rattle.rules.specs.Block.{entry_point_of, first_section_of, sections_of, kind_word_of}
 use Rattle.block_records.proofs.read_process_record.Goals as goal
 

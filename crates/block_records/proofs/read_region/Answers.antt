@@ -1,4 +1,3 @@
-use borrow.Author.Rules.{rules}
 use Rattle.rules.specs.Block.{region_start, region_pages, region_area}
 use Rattle.block_records.proofs.read_region.Goals as goal
 

@@ -1,6 +1,5 @@
 use mathlib.Core.Path.{◌∙◌}
 use native.Mathlib.Omega.{arith}
-use borrow.Author.Rules.{rules}
 use Rattle.rules.specs.Block.{address, size, flash_offset_of, flags}
 use Rattle.block_records.proofs.Sections.{section_is, first_word}
 use Rattle.block_records.proofs.read_section.Goals as goal

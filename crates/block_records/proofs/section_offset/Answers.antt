@@ -1,4 +1,3 @@
-use borrow.Author.Rules.{rules}
 use Rattle.rules.specs.Block.{section_at}
 use Rattle.block_records.proofs.Sections.{section_past}
 use Rattle.block_records.proofs.section_offset.Goals as goal

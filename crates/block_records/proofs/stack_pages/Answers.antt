@@ -1,4 +1,3 @@
-use borrow.Author.Rules.{rules}
 use borrow.Author.Tests.{eq-eqb, ne_eqb}
 use Rattle.notation.specs.Choice.{choose}
 use Rattle.rules.specs.Block.{stack_pages}

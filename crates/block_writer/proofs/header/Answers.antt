@@ -1,6 +1,5 @@
 use mathlib.Core.Path.{refl}
 use Rattle.rules.specs.Writer.{header_words}
-use borrow.Author.Rules.{rules}
 use Rattle.block_writer.proofs.header.Goals as goal
 
 pub returns : goal.returns

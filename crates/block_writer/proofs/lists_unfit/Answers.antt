@@ -2,7 +2,6 @@ use borrow.Author.Tests.{eq-eqb, ne_eqb}
 use Rattle.notation.specs.Choice.{any}
 use Rattle.laws.specs.Choice.{or_none}
 use Rattle.rules.specs.Writer.{lists_unfit}
-use borrow.Author.Rules.{rules}
 use Rattle.block_writer.proofs.lists_unfit.Goals as goal
 
 pub returns-then-processes-ne0 : goal.returns-then-processes-ne0

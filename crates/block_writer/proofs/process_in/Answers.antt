@@ -1,6 +1,5 @@
 use mathlib.Core.Path.{refl}
 use Rattle.block_writer.specs.Lists.{process_in}
-use borrow.Author.Rules.{rules}
 use Rattle.block_writer.proofs.process_in.Goals as goal
 
 pub returns : goal.returns

@@ -1,11 +1,10 @@
-use mathlib.Core.Path.{◌≡◌, ◌∙◌}
-use Prim.Native.Nat.{◌-◌, ◌*◌, ◌≤◌}
+use mathlib.Core.Path.{◌∙◌}
 use native.Mathlib.Nat.{sub-zero}
 use native.Mathlib.Omega.{arith}
 use borrow.Author.Rules.{rules}
-use Rattle.rules.specs.Refusals.{refused, accepted, first_record, first_refusal}
+use Rattle.rules.specs.Refusals.{refused, accepted, first_refusal}
 use Rattle.accepted.specs.InOrder.{scan_end, scan_next, scan_stop}
-use Rattle.block_writer.specs.Lists.{sections_before_in, check_in, process_refusal}
+use Rattle.block_writer.specs.Lists.{process_refusal}
 use Rattle.block_writer.proofs.Refusing.{sections_none, sections_next, checked_in, offset_fits}
 use Rattle.block_writer.proofs.process_refusal.Goals as goal
 

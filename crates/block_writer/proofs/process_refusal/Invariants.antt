@@ -1,12 +1,7 @@
-use mathlib.Core.Path.{◌≡◌, ◌∙◌}
+use mathlib.Core.Path.{◌≡◌}
 use Prim.Native.Nat.{◌-◌, ◌*◌, ◌≤◌}
-use native.Mathlib.Nat.{sub-zero}
-use native.Mathlib.Omega.{arith}
-use borrow.Author.Rules.{rules}
-use Rattle.rules.specs.Refusals.{refused, accepted, first_record, first_refusal}
-use Rattle.accepted.specs.InOrder.{scan_end, scan_next, scan_stop}
+use Rattle.rules.specs.Refusals.{accepted, first_record}
 use Rattle.block_writer.specs.Lists.{sections_before_in, check_in, process_refusal}
-use Rattle.block_writer.proofs.Refusing.{sections_none, sections_next, checked_in, offset_fits}
 use Rattle.block_writer.proofs.process_refusal.Given as goal
 
 -- the records from i on give what all give, and `before` is the sum of the section counts below i

@@ -1,6 +1,5 @@
 use mathlib.Core.Path.{refl}
 use Rattle.block_writer.proofs.Storing.{put_words_is}
-use borrow.Author.Rules.{rules}
 use Rattle.block_writer.proofs.put_words.Goals as goal
 
 pub returns : goal.returns

@@ -2,7 +2,6 @@ use native.Mathlib.Omega.{arith}
 use mathlib.Core.Path.{refl}
 use Rattle.rules.specs.Writer.{records_in, header_words}
 use Rattle.block_writer.proofs.Storing.{begun_none, begun_more, all_stored}
-use borrow.Author.Rules.{rules}
 use Rattle.block_writer.proofs.store_block.Goals as goal
 
 pub returns : goal.returns

@@ -1,5 +1,4 @@
 use mathlib.Core.Path.{◌∙◌}
-use borrow.Author.Rules.{rules}
 use Rattle.rules.specs.Writer.{records_in}
 use Rattle.block_writer.proofs.Answering.{refuses, few_accepted, room_accepted, writes}
 use Rattle.block_writer.proofs.write_block.Goals as goal

@@ -1,7 +1,6 @@
 use mathlib.Core.Path.{◌≡◌, sym, ◌∙◌}
 use mathlib.Core.Bool.{false}
 use native.Mathlib.Omega.{arith}
-use borrow.Author.Rules.{rules}
 use Rattle.rules.specs.Refusals.{refused}
 use Rattle.rules.specs.Writer.{Records, records_in, lists_unfit}
 use Rattle.round_trips.specs.WrittenBlock.{bounded}

@@ -1,5 +1,4 @@
 use mathlib.Core.Path.{◌∙◌}
-use borrow.Author.Rules.{rules}
 use Rattle.rules.specs.Refusals.{counts_out_of_bounds}
 use Rattle.check_header.proofs.counts_out_of_bounds.Goals as goal
 

@@ -1,5 +1,4 @@
 use mathlib.Core.Path.{sym, ◌∙◌}
-use borrow.Author.Rules.{rules}
 use Rattle.notation.specs.Choice.{any}
 use Rattle.laws.specs.Choice.{or_none}
 use Rattle.rules.specs.Refusals.{counts_outside}

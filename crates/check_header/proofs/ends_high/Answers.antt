@@ -1,6 +1,5 @@
 use Prim.Native.Nat.{suc, ◌+◌, ◌-◌}
 use native.Mathlib.Omega.{arith}
-use borrow.Author.Rules.{rules}
 use Rattle.laws.specs.Numbers.{leb_shift}
 use Rattle.check_header.proofs.ends_high.Goals as goal
 

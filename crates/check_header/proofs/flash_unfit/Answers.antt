@@ -1,6 +1,5 @@
 use mathlib.Core.Path.{sym, ◌∙◌}
 use borrow.Author.Tests.{eq-eqb, ne_eqb}
-use borrow.Author.Rules.{rules}
 use Rattle.notation.specs.Choice.{any}
 use Rattle.laws.specs.Choice.{or_none}
 use Rattle.rules.specs.Refusals.{flash_unfit}

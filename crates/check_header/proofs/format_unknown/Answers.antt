@@ -1,4 +1,3 @@
-use borrow.Author.Rules.{rules}
 use Rattle.rules.specs.Refusals.{format_unknown}
 use Rattle.rules.specs.Block.{format}
 use Rattle.check_header.proofs.format_unknown.Goals as goal

@@ -1,5 +1,4 @@
 use mathlib.Core.Path.{◌∙◌}
-use borrow.Author.Rules.{rules}
 use Rattle.rules.specs.Block.{section_end}
 use Rattle.check_processes.proofs.can_enter.Goals as goal
 

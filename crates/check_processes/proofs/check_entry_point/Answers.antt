@@ -1,5 +1,4 @@
 use mathlib.Core.Path.{◌∙◌}
-use borrow.Author.Rules.{rules}
 use Rattle.rules.specs.Refusals.{entry_point_check}
 use Rattle.check_processes.proofs.check_entry_point.Goals as goal
 

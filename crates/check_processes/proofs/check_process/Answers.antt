@@ -1,5 +1,4 @@
 use mathlib.Core.Path.{◌∙◌}
-use borrow.Author.Rules.{rules}
 use Rattle.rules.specs.Block.{process_record}
 use Rattle.rules.specs.Refusals.{record_unfit, process_record_check, process_check}
 use Rattle.check_processes.proofs.check_process.Goals as goal

@@ -1,5 +1,4 @@
 use mathlib.Core.Path.{◌∙◌}
-use borrow.Author.Rules.{rules}
 use Rattle.rules.specs.Refusals.{process_record_check}
 use Rattle.check_processes.proofs.check_record.Goals as goal
 

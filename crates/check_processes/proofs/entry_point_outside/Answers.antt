@@ -1,12 +1,9 @@
-use mathlib.Core.Path.{◌≡◌, sym, ◌∙◌}
-use mathlib.Core.Bool.{false}
-use Prim.Native.Nat.{◌≤◌, ◌-◌}
+use mathlib.Core.Path.{sym, ◌∙◌}
 use native.Mathlib.Omega.{arith}
 use borrow.Author.Rules.{rules}
-use Rattle.notation.specs.Lists.{exists}
 use Rattle.laws.specs.Lists.{exists_none}
 use Rattle.rules.specs.Block.{section_record}
-use Rattle.check_processes.proofs.EntryPoints.{enters, enters_not, entered, not_entered}
+use Rattle.check_processes.proofs.EntryPoints.{enters_not, entered, not_entered}
 use Rattle.check_processes.proofs.entry_point_outside.Goals as goal
 
 pub loop-j-init : goal.loop-j-init

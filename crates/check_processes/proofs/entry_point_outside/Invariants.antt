@@ -1,12 +1,8 @@
-use mathlib.Core.Path.{◌≡◌, sym, ◌∙◌}
+use mathlib.Core.Path.{◌≡◌}
 use mathlib.Core.Bool.{false}
 use Prim.Native.Nat.{◌≤◌, ◌-◌}
-use native.Mathlib.Omega.{arith}
-use borrow.Author.Rules.{rules}
 use Rattle.notation.specs.Lists.{exists}
-use Rattle.laws.specs.Lists.{exists_none}
-use Rattle.rules.specs.Block.{section_record}
-use Rattle.check_processes.proofs.EntryPoints.{enters, enters_not, entered, not_entered}
+use Rattle.check_processes.proofs.EntryPoints.{enters}
 use Rattle.check_processes.proofs.entry_point_outside.Given as goal
 
 -- so far no section below j has the entry point

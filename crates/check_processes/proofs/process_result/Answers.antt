@@ -1,4 +1,3 @@
-use borrow.Author.Rules.{rules}
 use Rattle.check_processes.proofs.process_result.Goals as goal
 
 pub returns : goal.returns

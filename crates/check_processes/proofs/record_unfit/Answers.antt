@@ -1,6 +1,5 @@
 use mathlib.Core.Path.{sym, ◌∙◌}
 use borrow.Author.Tests.{eq-eqb, le-ltb, lt-ltb, ne_eqb}
-use borrow.Author.Rules.{rules}
 use Rattle.notation.specs.Choice.{any}
 use Rattle.laws.specs.Choice.{or_none}
 use Rattle.rules.specs.Refusals.{record_unfit}

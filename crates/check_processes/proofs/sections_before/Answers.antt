@@ -1,8 +1,6 @@
 use mathlib.Core.Path.{◌≡◌, sym}
-use Prim.Native.Nat.{◌≤◌, ◌*◌, ◌-◌}
 use native.Mathlib.Omega.{arith}
 use borrow.Author.Rules.{rules}
-use Rattle.rules.specs.Refusals.{sections_before}
 use Rattle.accepted.specs.Sections.{sections_before_none, sections_before_next}
 use Rattle.check_processes.proofs.sections_before.Goals as goal
 

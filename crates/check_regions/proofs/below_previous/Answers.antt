@@ -1,7 +1,6 @@
 use Prim.Native.Nat.{◌<◌}
 use native.Mathlib.Omega.{arith}
 use borrow.Author.Tests.{lt-ltb}
-use borrow.Author.Rules.{rules}
 use Rattle.check_regions.proofs.below_previous.Goals as goal
 
 pub returns-then-i-eq0 : goal.returns-then-i-eq0

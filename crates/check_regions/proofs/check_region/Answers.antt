@@ -1,4 +1,3 @@
-use borrow.Author.Rules.{rules}
 use Rattle.rules.specs.Refusals.{region_check}
 use Rattle.check_regions.proofs.check_region.Goals as goal
 

@@ -1,5 +1,4 @@
 use mathlib.Core.Path.{◌∙◌}
-use borrow.Author.Rules.{rules}
 use Rattle.laws.specs.Counts.{sum_next}
 use Rattle.rules.specs.Block.{region_area, io_pages_of}
 use Rattle.rules.specs.Refusals.{region_unfit}

@@ -1,4 +1,3 @@
-use borrow.Author.Rules.{rules}
 use Rattle.rules.specs.Refusals.{section_check}
 use Rattle.check_sections.proofs.check_section.Goals as goal
 

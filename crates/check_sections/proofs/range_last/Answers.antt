@@ -3,7 +3,6 @@ use mathlib.Core.List.{List}
 use Prim.Native.Nat.{ℕ, ◌≤◌}
 use native.Mathlib.Omega.{arith}
 use borrow.Author.Tests.{eq-eqb, ne_eqb}
-use borrow.Author.Rules.{rules}
 use Rattle.notation.specs.Choice.{choose}
 use Rattle.rules.specs.Block.{stack_pages, stack_first}
 use Rattle.rules.specs.Refusals.{range_last}

@@ -1,5 +1,4 @@
 use mathlib.Core.Path.{◌∙◌}
-use borrow.Author.Rules.{rules}
 use Rattle.rules.specs.Refusals.{section_past_flash}
 use Rattle.check_sections.proofs.section_past_flash.Goals as goal
 

@@ -1,5 +1,4 @@
 use mathlib.Core.Path.{sym, ◌∙◌}
-use borrow.Author.Rules.{rules}
 use Rattle.notation.specs.Choice.{choose}
 use Rattle.rules.specs.Refusals.{section_refusal}
 use Rattle.check_sections.proofs.section_refusal.Goals as goal

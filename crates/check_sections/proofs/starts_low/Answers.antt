@@ -1,5 +1,4 @@
 use mathlib.Core.Path.{◌∙◌}
-use borrow.Author.Rules.{rules}
 use Rattle.check_sections.proofs.starts_low.Goals as goal
 
 pub returns : goal.returns

@@ -1,6 +1,5 @@
 use mathlib.Core.Path.{◌∙◌}
 use Rattle.checks.proofs.Answers.{marked_answer_is}
-use borrow.Author.Rules.{rules}
 use Rattle.checks.proofs.answer_on.Goals as goal
 
 pub returns : goal.returns

@@ -1,5 +1,4 @@
 use mathlib.Core.Path.{◌∙◌}
-use borrow.Author.Rules.{rules}
 use Rattle.checks.proofs.Answers.{verdict_of}
 use Rattle.checks.proofs.check.Goals as goal
 

@@ -1,4 +1,3 @@
-use borrow.Author.Rules.{rules}
 use Rattle.checks.specs.Scan.{check_at}
 use Rattle.checks.proofs.check_at.Goals as goal
 

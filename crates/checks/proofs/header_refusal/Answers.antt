@@ -1,8 +1,6 @@
-use mathlib.Core.Bool.{false}
-use mathlib.Core.Path.{◌≡◌, sym, ◌∙◌}
-use borrow.Author.Rules.{rules}
+use mathlib.Core.Path.{sym, ◌∙◌}
 use Rattle.notation.specs.Choice.{choose}
-use Rattle.rules.specs.Refusals.{block_too_short, format_unknown, counts_out_of_bounds, accepted, first_refusal, header_checks}
+use Rattle.rules.specs.Refusals.{accepted, first_refusal, header_checks}
 use Rattle.checks.proofs.header_refusal.Goals as goal
 
 pub returns-then-block_too_short : goal.returns-then-block_too_short

@@ -1,7 +1,6 @@
 use mathlib.Core.Path.{sym, ◌∙◌}
 use Rattle.notation.specs.Choice.{choose}
 use Rattle.rules.specs.Refusals.{accepted, first_refusal, lent_checks}
-use borrow.Author.Rules.{rules}
 use Rattle.checks.proofs.lent_refusal.Goals as goal
 
 pub returns-then-ram_unfit : goal.returns-then-ram_unfit

@@ -3,7 +3,6 @@ use native.Mathlib.Omega.{arith}
 use Rattle.rules.specs.Lent.{image_of}
 use Rattle.checks.proofs.Verdicts.{before_12_pass, few_pages, counted}
 use Rattle.checks.proofs.Answers.{marked_refused, marked_room}
-use borrow.Author.Rules.{rules}
 use Rattle.checks.proofs.mark_and_answer.Goals as goal
 
 pub returns-then-first-ne0 : goal.returns-then-first-ne0

@@ -1,4 +1,3 @@
-use borrow.Author.Rules.{rules}
 use Rattle.checks.specs.Scan.{record_count}
 use Rattle.checks.proofs.record_count.Goals as goal
 

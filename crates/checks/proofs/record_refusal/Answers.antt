@@ -1,4 +1,3 @@
-use borrow.Author.Rules.{rules}
 use Rattle.notation.specs.Choice.{choose}
 use Rattle.accepted.specs.InOrder.{passes, refuses}
 use Rattle.checks.proofs.Verdicts.{records_then}

@@ -1,7 +1,6 @@
 use Rattle.notation.specs.Choice.{choose}
 use Rattle.accepted.specs.InOrder.{passes, refuses}
 use Rattle.checks.proofs.Verdicts.{before_12_then, counted}
-use borrow.Author.Rules.{rules}
 use Rattle.checks.proofs.refusal_before_12.Goals as goal
 
 pub returns-then-lent-ne0 : goal.returns-then-lent-ne0

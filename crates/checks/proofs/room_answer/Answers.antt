@@ -3,7 +3,6 @@ use Rattle.rules.specs.Load.{refusal_answer}
 use Rattle.checks.proofs.Needed.{too_small, place_needed, room_enough, tracker_few}
 use Rattle.checks.proofs.Answers.{no_room, boot_answer_is}
 use native.Mathlib.Omega.{arith}
-use borrow.Author.Rules.{rules}
 use Rattle.checks.proofs.room_answer.Goals as goal
 
 pub returns-then-pages-needed : goal.returns-then-pages-needed

@@ -1,11 +1,8 @@
-use mathlib.Core.List.{[], ◌∷◌}
-use mathlib.Core.Path.{◌≡◌, ◌∙◌}
-use Prim.Native.Nat.{◌≤◌, ◌-◌}
+use mathlib.Core.Path.{◌∙◌}
 use native.Mathlib.Nat.{sub-zero}
 use native.Mathlib.Omega.{arith}
 use borrow.Author.Rules.{rules}
-use Rattle.rules.specs.Refusals.{accepted, first_record, first_refusal}
-use Rattle.checks.specs.Scan.{check_at, scan_of}
+use Rattle.rules.specs.Refusals.{accepted, first_refusal}
 use Rattle.accepted.specs.InOrder.{scan_end, scan_next, scan_stop}
 use Rattle.checks.proofs.Verdicts.{offset_fits}
 use Rattle.checks.proofs.scan_refusal.Goals as goal

@@ -1,5 +1,4 @@
 use Rattle.load_page.proofs.Copied.{block_page_is}
-use borrow.Author.Rules.{rules}
 use Rattle.load_page.proofs.block_page.Goals as goal
 
 pub returns : goal.returns

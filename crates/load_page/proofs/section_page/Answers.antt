@@ -1,5 +1,4 @@
 use Rattle.load_page.proofs.Copied.{no_copy_page_is, section_page_is_lem}
-use borrow.Author.Rules.{rules}
 use Rattle.load_page.proofs.section_page.Goals as goal
 
 pub returns-then-section : goal.returns-then-section

@@ -1,8 +1,5 @@
-use Prim.Native.Nat.{◌-◌, ◌≤◌}
-use Rattle.load_sections.specs.Pages.{WrotePages}
 use Rattle.load_sections.proofs.Turns.{pages_none, pages_next, pages_all}
 use native.Mathlib.Omega.{arith}
-use borrow.Author.Rules.{rules}
 use Rattle.load_sections.proofs.clear_pages.Goals as goal
 
 pub loop-next-init : goal.loop-next-init

@@ -1,7 +1,4 @@
 use mathlib.Core.Path.{refl}
-use Prim.Native.Nat.{◌-◌, ◌≤◌}
-use Rattle.load_page.specs.Pages.{page_of}
-use Rattle.load_sections.specs.Pages.{WrotePages}
 use Rattle.load_sections.proofs.Turns.{pages_none, pages_next, pages_all}
 use native.Mathlib.Omega.{arith}
 use borrow.Author.Rules.{rules}

@@ -1,10 +1,6 @@
-use mathlib.Core.Path.{refl}
 use Prim.Native.Nat.{◌-◌, ◌≤◌}
 use Rattle.load_page.specs.Pages.{page_of}
 use Rattle.load_sections.specs.Pages.{WrotePages}
-use Rattle.load_sections.proofs.Turns.{pages_none, pages_next, pages_all}
-use native.Mathlib.Omega.{arith}
-use borrow.Author.Rules.{rules}
 use Rattle.load_sections.proofs.load_pages.Given as goal
 
 abbrev pub invariant-loop-i : goal.invariant-loop-i

@@ -1,12 +1,9 @@
 use Prim.Native.Nat.{◌-◌, ◌≤◌}
 use Rattle.notation.specs.Lists.{gather}
-use Rattle.writing.specs.Uses.{Wrote, wrote_gather_none, wrote_gather_next}
+use Rattle.writing.specs.Uses.{Wrote}
 use Rattle.writing.specs.Loaded.{section_content}
 use Rattle.xip_sections.specs.Marks.{marked}
 use Rattle.rules.specs.Order.{section_pages}
-use Rattle.load_sections.proofs.Turns.{process_end}
-use native.Mathlib.Omega.{arith}
-use borrow.Author.Rules.{rules}
 use Rattle.load_sections.proofs.load_process.Given as goal
 
 abbrev pub invariant-loop-j : goal.invariant-loop-j

@@ -1,7 +1,6 @@
 use Rattle.laws.specs.Choice.{and_left}
 use Rattle.load_sections.proofs.Turns.{room_left, pages_cleared, section_end_is}
 use native.Mathlib.Omega.{arith}
-use borrow.Author.Rules.{rules}
 use Rattle.load_sections.proofs.load_section.Goals as goal
 
 pub clear_pages-requires : goal.clear_pages-requires

@@ -1,9 +1,6 @@
-use Prim.Native.Nat.{◌+◌, ◌-◌, ◌≤◌}
-use Rattle.notation.specs.Lists.{gather}
+use Prim.Native.Nat.{◌+◌}
 use Rattle.rules.specs.Order.{section_uses}
-use Rattle.xip_sections.specs.Marks.{marked}
-use Rattle.writing.specs.Uses.{Wrote, wrote_gather_none, wrote_gather_next}
-use Rattle.writing.specs.Loaded.{section_content}
+use Rattle.writing.specs.Uses.{wrote_gather_none, wrote_gather_next}
 use Rattle.load_sections.proofs.Turns.{sections_end}
 use native.Mathlib.Omega.{arith}
 use borrow.Author.Rules.{rules}

@@ -2,11 +2,8 @@ use Prim.Native.Nat.{◌+◌, ◌-◌, ◌≤◌}
 use Rattle.notation.specs.Lists.{gather}
 use Rattle.rules.specs.Order.{section_uses}
 use Rattle.xip_sections.specs.Marks.{marked}
-use Rattle.writing.specs.Uses.{Wrote, wrote_gather_none, wrote_gather_next}
+use Rattle.writing.specs.Uses.{Wrote}
 use Rattle.writing.specs.Loaded.{section_content}
-use Rattle.load_sections.proofs.Turns.{sections_end}
-use native.Mathlib.Omega.{arith}
-use borrow.Author.Rules.{rules}
 use Rattle.load_sections.proofs.load_sections.Given as goal
 
 abbrev pub invariant-loop-i : goal.invariant-loop-i

@@ -1,10 +1,6 @@
-use mathlib.Core.Path.{◌≡◌, refl, sym, ◌∙◌}
+use mathlib.Core.Path.{◌≡◌}
 use Prim.Native.Nat.{◌≤◌}
 use Rattle.order_leaves.specs.TakenSlots.{slot_taken}
-use Rattle.order_leaves.proofs.TakenSlots.{taken_none, taken_last}
-use Rattle.laws.specs.Choice.{choose_yes, choose_no}
-use native.Mathlib.Omega.{arith}
-use borrow.Author.Rules.{rules}
 use Rattle.order_leaves.proofs.slot_taken.Given as goal
 
 -- the records from number i on have no page in the slot

@@ -1,9 +1,6 @@
 use mathlib.Core.Path.{◌≡◌}
-use Prim.Native.Nat.{◌-◌, ◌≤◌}
-use Rattle.order_leaves.specs.TakenSlots.{slot_taken, IsTaken}
 use Rattle.order_leaves.proofs.TakenSlots.{is_taken_none, is_taken_next, is_taken_few, kernel_tables, user_tables}
 use native.Mathlib.Omega.{arith}
-use borrow.Author.Rules.{rules}
 use Rattle.order_leaves.proofs.table_count.Goals as goal
 
 pub returns-then-q-eq1 : goal.returns-then-q-eq1

@@ -1,13 +1,8 @@
-use mathlib.Core.Path.{◌≡◌, sym, ap, ◌∙◌}
-use mathlib.Core.Bool.{not}
-use mathlib.Core.Logic.{⊎_elim}
+use mathlib.Core.Path.{◌≡◌}
 use Prim.Native.Nat.{◌+◌, ◌-◌, ◌≤◌, max}
 use Rattle.notation.specs.Lists.{sum}
-use Rattle.laws.specs.Counts.{one_yes, one_no}
 use Rattle.order_leaves.specs.TakenSlots.{slot_taken}
-use Rattle.order_leaves.proofs.TakenSlots.{added, added_start, added_next, is_taken_few, is_taken_with}
-use native.Mathlib.Omega.{arith}
-use borrow.Author.Rules.{rules}
+use Rattle.order_leaves.proofs.TakenSlots.{added}
 use Rattle.order_leaves.proofs.take_slots.Given as goal
 
 -- the slots below m are added

@@ -1,7 +1,5 @@
-use mathlib.Core.Path.{◌≡◌, sym}
-use Prim.Native.Nat.{◌-◌, ◌*◌, ◌≤◌}
-use Rattle.order_laws.specs.Places.{pages_before, pages_before_none}
-use Rattle.xip_sections.specs.Marks.{marked}
+use mathlib.Core.Path.{sym}
+use Rattle.order_laws.specs.Places.{pages_before_none}
 use Rattle.order_places.proofs.ProcessPages.{one_more, all_pages}
 use native.Mathlib.Omega.{arith}
 use borrow.Author.Rules.{rules}

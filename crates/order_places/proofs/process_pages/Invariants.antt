@@ -1,10 +1,7 @@
-use mathlib.Core.Path.{◌≡◌, sym}
+use mathlib.Core.Path.{◌≡◌}
 use Prim.Native.Nat.{◌-◌, ◌*◌, ◌≤◌}
-use Rattle.order_laws.specs.Places.{pages_before, pages_before_none}
+use Rattle.order_laws.specs.Places.{pages_before}
 use Rattle.xip_sections.specs.Marks.{marked}
-use Rattle.order_places.proofs.ProcessPages.{one_more, all_pages}
-use native.Mathlib.Omega.{arith}
-use borrow.Author.Rules.{rules}
 use Rattle.order_places.proofs.process_pages.Given as goal
 
 abbrev pub invariant-loop-j : goal.invariant-loop-j

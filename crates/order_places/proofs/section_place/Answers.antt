@@ -1,6 +1,5 @@
 use Rattle.order_laws.specs.Places.{section_place}
 use native.Mathlib.Omega.{arith}
-use borrow.Author.Rules.{rules}
 use Rattle.order_places.proofs.section_place.Goals as goal
 
 pub returns : goal.returns

@@ -1,7 +1,6 @@
 use mathlib.Core.Path.{◌≡◌}
-use Prim.Native.Nat.{◌+◌, ◌-◌, ◌≤◌}
-use Rattle.order_laws.specs.Places.{tables_before, tables_before_none, tables_before_next, table_uses_length}
-use Rattle.order_places.specs.Capped.{capped}
+use Prim.Native.Nat.{◌+◌}
+use Rattle.order_laws.specs.Places.{tables_before_none, tables_before_next, table_uses_length}
 use native.Mathlib.Omega.{arith}
 use borrow.Author.Rules.{rules}
 use Rattle.order_places.proofs.tables_before.Goals as goal

@@ -1,10 +1,8 @@
 use mathlib.Core.Path.{◌≡◌}
 use Prim.Native.Nat.{◌-◌, ◌≤◌}
-use Rattle.order_laws.specs.Places.{user_pages, user_pages_none, user_pages_next}
+use Rattle.order_laws.specs.Places.{user_pages}
 use Rattle.xip_sections.specs.Marks.{marked}
 use Rattle.order_places.specs.Capped.{capped}
-use native.Mathlib.Omega.{arith}
-use borrow.Author.Rules.{rules}
 use Rattle.order_places.proofs.user_pages.Given as goal
 
 abbrev pub invariant-loop-i : goal.invariant-loop-i

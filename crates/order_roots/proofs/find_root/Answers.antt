@@ -5,7 +5,6 @@ use Rattle.xip_sections.specs.Marks.{marked}
 use Rattle.checks.proofs.Answers.{marked_answer_is, boot_marks}
 use Rattle.order_roots.proofs.RootFound.{root_refused, root_below, root_above, root_at, few_pages}
 use native.Mathlib.Omega.{arith}
-use borrow.Author.Rules.{rules}
 use Rattle.order_roots.proofs.find_root.Goals as goal
 
 pub returns-then-answer-ne0 : goal.returns-then-answer-ne0

@@ -1,9 +1,6 @@
-use mathlib.Core.Path.{◌≡◌, sym}
+use mathlib.Core.Path.{◌≡◌}
 use Prim.Native.Nat.{◌≤◌, ◌*◌, ◌-◌}
-use native.Mathlib.Omega.{arith}
-use borrow.Author.Rules.{rules}
-use Rattle.laws.specs.Counts.{sum_none, sum_next}
-use Rattle.rules.specs.Block.{io_pages_of, region_pages}
+use Rattle.rules.specs.Block.{io_pages_of}
 use Rattle.order_tracker.proofs.io_pages_of.Given as goal
 
 -- so far the pages of the regions below i

@@ -1,5 +1,4 @@
 use native.Mathlib.Omega.{arith}
-use borrow.Author.Rules.{rules}
 use Rattle.rules.specs.Order.{pages_for, tracker_pages}
 use Rattle.rules.specs.Block.{io_pages}
 use Rattle.order_tracker.proofs.tracker_pages.Goals as goal

@@ -1,6 +1,5 @@
 use mathlib.Core.Path.{◌∙◌}
 use Rattle.rules.specs.Block.{has_section}
-use borrow.Author.Rules.{rules}
 use Rattle.section_owners.proofs.has_section.Goals as goal
 
 pub returns : goal.returns

@@ -1,8 +1,7 @@
 use mathlib.Core.Path.{sym, ◌∙◌}
-use Prim.Native.Nat.{◌<◌}
 use native.Mathlib.Omega.{arith}
 use borrow.Author.Rules.{rules}
-use Rattle.section_owners.proofs.Owners.{Searched, owner_here, owner_below, owner_none}
+use Rattle.section_owners.proofs.Owners.{owner_here, owner_below, owner_none}
 use Rattle.section_owners.proofs.owner_of.Goals as goal
 
 pub loop-q-init : goal.loop-q-init

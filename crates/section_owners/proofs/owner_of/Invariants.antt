@@ -1,8 +1,5 @@
-use mathlib.Core.Path.{sym, ◌∙◌}
 use Prim.Native.Nat.{◌<◌}
-use native.Mathlib.Omega.{arith}
-use borrow.Author.Rules.{rules}
-use Rattle.section_owners.proofs.Owners.{Searched, owner_here, owner_below, owner_none}
+use Rattle.section_owners.proofs.Owners.{Searched}
 use Rattle.section_owners.proofs.owner_of.Given as goal
 
 -- the owner is one of the first q processes, if there is one

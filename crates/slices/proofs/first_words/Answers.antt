@@ -1,5 +1,4 @@
 use Rattle.notation.specs.Words.{word}
-use borrow.Author.Rules.{rules}
 use Rattle.slices.proofs.first_words.Goals as goal
 
 pub returns : goal.returns

@@ -1,5 +1,4 @@
 use Rattle.slices.proofs.Parts.{words_tail}
-use borrow.Author.Rules.{rules}
 use Rattle.slices.proofs.four_words.Goals as goal
 
 pub returns-then-t-lt16 : goal.returns-then-t-lt16

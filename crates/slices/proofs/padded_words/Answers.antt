@@ -1,7 +1,6 @@
 use native.Mathlib.Omega.{arith}
 use lib.ListN.{get_or-replicate}
 use Rattle.slices.proofs.Parts.{words_padded}
-use borrow.Author.Rules.{rules}
 use Rattle.slices.proofs.padded_words.Goals as goal
 
 pub returns : goal.returns

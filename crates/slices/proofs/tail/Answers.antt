@@ -1,5 +1,4 @@
 use Rattle.slices.proofs.Parts.{tail_is}
-use borrow.Author.Rules.{rules}
 use Rattle.slices.proofs.tail.Goals as goal
 
 pub returns : goal.returns

@@ -1,6 +1,5 @@
 use mathlib.Core.Path.{◌∙◌}
 use Rattle.slices.proofs.Parts.{word_tail, joined_tail}
-use borrow.Author.Rules.{rules}
 use Rattle.slices.proofs.word.Goals as goal
 
 pub returns-then-t-lt4 : goal.returns-then-t-lt4

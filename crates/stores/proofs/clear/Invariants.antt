@@ -1,9 +1,6 @@
-use mathlib.Core.Path.{refl}
 use Prim.Native.Nat.{◌-◌, ◌≤◌}
 use lib.ListN.{length}
-use Rattle.stores.proofs.Written.{Written, written_none, written_more, written_all}
-use native.Mathlib.Omega.{arith}
-use borrow.Author.Rules.{rules}
+use Rattle.stores.proofs.Written.{Written}
 use Rattle.stores.proofs.clear.Given as goal
 
 -- so far the bytes below i are 0

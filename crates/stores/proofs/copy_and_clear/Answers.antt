@@ -1,6 +1,5 @@
 use Rattle.stores.proofs.Written.{copied_written_all}
 use native.Mathlib.Omega.{arith}
-use borrow.Author.Rules.{rules}
 use Rattle.stores.proofs.copy_and_clear.Goals as goal
 
 pub returns : goal.returns

@@ -1,7 +1,5 @@
 use Prim.Native.Nat.{◌+◌, ◌-◌, ◌≤◌}
-use Rattle.stores.proofs.Written.{Written, written_none, copy_of, copied_more, copied_taken}
-use native.Mathlib.Omega.{arith}
-use borrow.Author.Rules.{rules}
+use Rattle.stores.proofs.Written.{Written, copy_of}
 use Rattle.stores.proofs.copy_bytes.Given as goal
 
 -- so far i bytes are copied

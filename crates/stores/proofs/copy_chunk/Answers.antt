@@ -1,6 +1,5 @@
 use Rattle.stores.proofs.Written.{copied_by_way}
 use native.Mathlib.Omega.{arith}
-use borrow.Author.Rules.{rules}
 use Rattle.stores.proofs.copy_chunk.Goals as goal
 
 pub returns : goal.returns

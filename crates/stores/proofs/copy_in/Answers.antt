@@ -1,5 +1,4 @@
-use Prim.Native.Nat.{◌+◌, ◌-◌, ◌≤◌}
-use Rattle.stores.proofs.Written.{Written, written_none, copy_of, copied_next, copied_is}
+use Rattle.stores.proofs.Written.{written_none, copied_next, copied_is}
 use native.Mathlib.Omega.{arith}
 use borrow.Author.Rules.{rules}
 use Rattle.stores.proofs.copy_in.Goals as goal

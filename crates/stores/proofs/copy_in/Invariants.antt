@@ -1,7 +1,5 @@
 use Prim.Native.Nat.{◌+◌, ◌-◌, ◌≤◌}
-use Rattle.stores.proofs.Written.{Written, written_none, copy_of, copied_next, copied_is}
-use native.Mathlib.Omega.{arith}
-use borrow.Author.Rules.{rules}
+use Rattle.stores.proofs.Written.{Written, copy_of}
 use Rattle.stores.proofs.copy_in.Given as goal
 
 -- so far i bytes are copied

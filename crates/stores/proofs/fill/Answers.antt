@@ -1,6 +1,5 @@
 use mathlib.Core.Path.{refl}
-use Prim.Native.Nat.{◌-◌, ◌≤◌, max}
-use Rattle.stores.proofs.Written.{Written, written_none, written_more, filled_is}
+use Rattle.stores.proofs.Written.{written_none, written_more, filled_is}
 use native.Mathlib.Omega.{arith}
 use borrow.Author.Rules.{rules}
 use Rattle.stores.proofs.fill.Goals as goal

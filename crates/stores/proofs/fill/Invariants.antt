@@ -1,8 +1,5 @@
-use mathlib.Core.Path.{refl}
 use Prim.Native.Nat.{◌-◌, ◌≤◌, max}
-use Rattle.stores.proofs.Written.{Written, written_none, written_more, filled_is}
-use native.Mathlib.Omega.{arith}
-use borrow.Author.Rules.{rules}
+use Rattle.stores.proofs.Written.{Written}
 use Rattle.stores.proofs.fill.Given as goal
 
 -- so far the bytes from `from` up to i are filled

@@ -1,7 +1,6 @@
 use borrow.Author.Tests.{eq-eqb, ne_eqb}
 use Rattle.notation.specs.Choice.{choose}
 use Rattle.rules.specs.Entries.{decode, rights_in}
-use borrow.Author.Rules.{rules}
 use Rattle.sv32_entries.proofs.decode.Goals as goal
 
 pub returns-then-e-eq-RESERVED : goal.returns-then-e-eq-RESERVED

@@ -1,6 +1,5 @@
 use Rattle.rules.specs.Entries.{page_entry}
 use native.Mathlib.Omega.{arith}
-use borrow.Author.Rules.{rules}
 use Rattle.sv32_entries.proofs.page_entry.Goals as goal
 
 pub returns : goal.returns

@@ -1,7 +1,5 @@
 use borrow.Author.Rules.{rules}
 use Rattle.rules.specs.Entries.{satp_of}
-use Rattle.sv32_entries.proofs.satp_word.Reads as reads
-use Rattle.sv32_entries.proofs.satp_word.Lts as lts
 use Rattle.sv32_entries.proofs.satp_word.Goals as goal
 
 pub returns : goal.returns

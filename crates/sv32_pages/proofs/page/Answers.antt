@@ -1,6 +1,5 @@
 use mathlib.Core.Path.{ap, ◌∙◌}
 use Rattle.rules.specs.Reader.{entry_bytes, page_at}
-use borrow.Author.Rules.{rules}
 use Rattle.sv32_pages.proofs.page.Goals as goal
 
 pub returns : goal.returns

@@ -1,6 +1,5 @@
 use mathlib.Core.Path.{sym, ◌∙◌}
 use Rattle.sv32_pages.proofs.PageCases.{page_in_below, page_in_above, page_in_inside}
-use borrow.Author.Rules.{rules}
 use Rattle.sv32_pages.proofs.page_in.Goals as goal
 
 pub returns-then-at-base : goal.returns-then-at-base

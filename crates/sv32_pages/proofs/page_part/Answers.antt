@@ -1,6 +1,5 @@
 use mathlib.Core.Path.{sym, ◌∙◌}
 use Rattle.sv32_pages.proofs.PageCases.{page_bytes_flash, page_bytes_ram}
-use borrow.Author.Rules.{rules}
 use Rattle.sv32_pages.proofs.page_part.Goals as goal
 
 pub returns-then-part-eq0 : goal.returns-then-part-eq0

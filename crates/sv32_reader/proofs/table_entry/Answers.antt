@@ -1,7 +1,6 @@
 use Rattle.rules.specs.Entries.{decode}
 use mathlib.Core.Path.{refl, sym, ap, ◌∙◌}
 use Rattle.sv32_reader.proofs.WalkCases.{table_entry_below, table_entry_above, table_entry_inside}
-use borrow.Author.Rules.{rules}
 use Rattle.sv32_reader.proofs.table_entry.Goals as goal
 
 pub returns-then-at-base : goal.returns-then-at-base

@@ -2,7 +2,6 @@ use Prim.Native.Nat.{◌/◌}
 use mathlib.Core.Path.{refl, sym, ◌∙◌}
 use Rattle.sv32_reader.proofs.WalkCases.{walk_page}
 use native.Mathlib.Omega.{arith}
-use borrow.Author.Rules.{rules}
 use Rattle.sv32_reader.proofs.walk.Goals as goal
 
 pub returns : goal.returns

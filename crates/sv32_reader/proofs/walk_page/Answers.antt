@@ -2,7 +2,6 @@ use Rattle.rules.specs.Reader.{root_answer}
 use mathlib.Core.Path.{sym, ap, ◌∙◌}
 use Rattle.sv32_reader.proofs.WalkCases.{walk_page}
 use native.Mathlib.Omega.{arith}
-use borrow.Author.Rules.{rules}
 use Rattle.sv32_reader.proofs.walk_page.Goals as goal
 
 pub returns : goal.returns

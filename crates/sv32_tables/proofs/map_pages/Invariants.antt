@@ -1,10 +1,7 @@
-use mathlib.Core.Path.{◌∙◌}
 use Prim.Native.Nat.{◌+◌, ◌-◌, ◌*◌, ◌%◌}
-use borrow.Author.Count.{falls}
 use Rattle.rules.specs.Entries.{page_entry}
-use Rattle.sv32_tables.specs.Filled.{nth_page, pages_mapped}
-use Rattle.sv32_tables.proofs.Filling.{Filling, filling_none, filling_more, filling_through}
-use borrow.Author.Rules.{rules}
+use Rattle.sv32_tables.specs.Filled.{nth_page}
+use Rattle.sv32_tables.proofs.Filling.{Filling}
 use Rattle.sv32_tables.proofs.map_pages.Given as goal
 
 -- so far the pages below index i are mapped

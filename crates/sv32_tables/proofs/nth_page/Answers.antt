@@ -2,7 +2,6 @@ use Prim.Native.Nat.{ℕ}
 use Rattle.laws.specs.Choice.{choose_yes, choose_no}
 use Rattle.sv32_tables.specs.Filled.{nth_page}
 use native.Mathlib.Omega.{arith}
-use borrow.Author.Rules.{rules}
 use Rattle.sv32_tables.proofs.nth_page.Goals as goal
 
 pub returns-then-rises : goal.returns-then-rises

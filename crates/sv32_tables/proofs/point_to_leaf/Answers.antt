@@ -1,6 +1,5 @@
 use mathlib.Core.Path.{sym}
 use lib.Seq.{set_out}
-use borrow.Author.Rules.{rules}
 use Rattle.sv32_tables.proofs.point_to_leaf.Goals as goal
 
 pub returns-then-m-entries : goal.returns-then-m-entries

@@ -1,10 +1,6 @@
-use mathlib.Core.Path.{refl, ◌∙◌}
 use Prim.Native.Nat.{◌-◌}
-use borrow.Author.Count.{falls}
 use Rattle.rules.specs.Entries.{reserved_entry}
-use Rattle.sv32_tables.specs.Filled.{stack_reserved}
-use Rattle.sv32_tables.proofs.Filling.{Filling, filling_none, filling_more, filling_up_to}
-use borrow.Author.Rules.{rules}
+use Rattle.sv32_tables.proofs.Filling.{Filling}
 use Rattle.sv32_tables.proofs.reserve_stack.Given as goal
 
 -- so far the entries below index i are reserved

@@ -1,6 +1,5 @@
 use mathlib.Core.Path.{sym}
 use Rattle.sv32_views.proofs.ShownCases.{shown_outside, shown_inside}
-use borrow.Author.Rules.{rules}
 use Rattle.sv32_views.proofs.page_shown.Goals as goal
 
 pub returns-then-part-eq0 : goal.returns-then-part-eq0

@@ -1,6 +1,5 @@
 use mathlib.Core.Path.{ap, ◌∙◌}
 use Rattle.rules.specs.Sees.{shown, seen_from}
-use borrow.Author.Rules.{rules}
 use Rattle.sv32_views.proofs.seen_from.Goals as goal
 
 pub returns : goal.returns

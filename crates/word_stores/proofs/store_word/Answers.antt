@@ -1,7 +1,6 @@
 use lib.ListN.{length-set}
 use Rattle.word_stores.proofs.Words.{with_word_stored}
 use native.Mathlib.Omega.{arith}
-use borrow.Author.Rules.{rules}
 use Rattle.word_stores.proofs.store_word.Goals as goal
 
 pub bounds-s-at-2 : goal.bounds-s-at-2

@@ -1,9 +1,6 @@
-use mathlib.Core.Path.{refl}
 use Prim.Native.Nat.{◌-◌, ◌*◌, ◌≤◌}
-use Rattle.stores.proofs.Written.{Written, written_none}
-use Rattle.word_stores.proofs.Words.{words_of, with_words_more, with_words_rest, with_words_is}
-use native.Mathlib.Omega.{arith}
-use borrow.Author.Rules.{rules}
+use Rattle.stores.proofs.Written.{Written}
+use Rattle.word_stores.proofs.Words.{words_of}
 use Rattle.word_stores.proofs.words_in.Given as goal
 
 -- so far i words are stored

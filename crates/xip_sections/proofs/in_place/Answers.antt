@@ -1,6 +1,5 @@
 use mathlib.Core.Path.{sym, ◌∙◌}
 use Rattle.xip_sections.proofs.Deciding.{not_there, not_user, not_kind_1, not_copied, not_constant, in_pages}
-use borrow.Author.Rules.{rules}
 use Rattle.rules.specs.Block.{kind}
 use Rattle.xip_sections.proofs.in_place.Goals as goal
 

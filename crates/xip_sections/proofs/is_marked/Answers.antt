@@ -1,5 +1,4 @@
 use Rattle.xip_sections.specs.Marks.{marked}
-use borrow.Author.Rules.{rules}
 use Rattle.xip_sections.proofs.is_marked.Goals as goal
 
 pub returns : goal.returns

@@ -1,10 +1,9 @@
 use mathlib.Core.Path.{sym, ◌∙◌}
-use borrow.Author.Tests.{eq-eqb, ne_eqb, le-leb, lt-leb, not-true, not-false}
+use borrow.Author.Tests.{eq-eqb, ne_eqb, le-leb, lt-leb}
 use Rattle.notation.specs.Choice.{all}
 use Rattle.laws.specs.Choice.{all_fails}
 use Rattle.xip_sections.specs.Marks.{lies_in_pages}
 use Rattle.xip_sections.proofs.Deciding.{all_last}
-use borrow.Author.Rules.{rules}
 use Rattle.xip_sections.proofs.lies_in_pages.Goals as goal
 
 pub returns-then-start-section : goal.returns-then-start-section

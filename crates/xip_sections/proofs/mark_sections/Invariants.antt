@@ -1,10 +1,7 @@
-use mathlib.Core.Path.{refl, ◌∙◌}
 use Prim.Native.Nat.{◌-◌, ◌≤◌}
 use lib.ListN.{length}
-use Rattle.stores.proofs.Written.{Written, written_none, written_more, written_all}
-use Rattle.xip_sections.specs.Marks.{mark_of, marks_of}
-use native.Mathlib.Omega.{arith}
-use borrow.Author.Rules.{rules}
+use Rattle.stores.proofs.Written.{Written}
+use Rattle.xip_sections.specs.Marks.{mark_of}
 use Rattle.xip_sections.proofs.mark_sections.Given as goal
 
 abbrev pub invariant-loop-n : goal.invariant-loop-n

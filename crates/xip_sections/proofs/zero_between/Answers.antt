@@ -1,9 +1,5 @@
-use mathlib.Core.Path.{◌≡◌}
-use mathlib.Core.Bool.{false}
-use Prim.Native.Nat.{◌-◌, ◌≤◌}
-use Rattle.notation.specs.Lists.{exists}
 use Rattle.laws.specs.Lists.{exists_none}
-use Rattle.xip_sections.proofs.Deciding.{not_zero, zero_next, zero_not, zero_all}
+use Rattle.xip_sections.proofs.Deciding.{zero_next, zero_not, zero_all}
 use native.Mathlib.Omega.{arith}
 use borrow.Author.Rules.{rules}
 use Rattle.xip_sections.proofs.zero_between.Goals as goal

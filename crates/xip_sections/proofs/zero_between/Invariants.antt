@@ -2,10 +2,7 @@ use mathlib.Core.Path.{◌≡◌}
 use mathlib.Core.Bool.{false}
 use Prim.Native.Nat.{◌-◌, ◌≤◌}
 use Rattle.notation.specs.Lists.{exists}
-use Rattle.laws.specs.Lists.{exists_none}
-use Rattle.xip_sections.proofs.Deciding.{not_zero, zero_next, zero_not, zero_all}
-use native.Mathlib.Omega.{arith}
-use borrow.Author.Rules.{rules}
+use Rattle.xip_sections.proofs.Deciding.{not_zero}
 use Rattle.xip_sections.proofs.zero_between.Given as goal
 
 abbrev pub invariant-loop-k : goal.invariant-loop-k
