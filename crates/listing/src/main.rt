@@ -125,14 +125,12 @@ fn read_file(rt: &HostRuntime, name: &str, buf: &mut [u8]) -> io::Result<File> {
 
 // How many arguments there are, the program's own name among them; 7 where there are more.
 fn argument_count(rt: &HostRuntime) -> usize {
-    let mut count = 0;
-    while count < 7 {
-        if let Err(FillError::NotPresent) = rt.arg(count, &mut []) {
-            break;
+    for i in 0..7 {
+        if let Err(FillError::NotPresent) = rt.arg(i, &mut []) {
+            return i;
         }
-        count += 1;
     }
-    count
+    7
 }
 
 // The number that argument i spells; else `line` is said.

@@ -256,14 +256,12 @@ fn same(a: &[u8], b: &[u8]) -> bool {
 
 // How many arguments there are, the program's own name among them; 4 where there are more.
 fn argument_count(rt: &HostRuntime) -> usize {
-    let mut count = 0;
-    while count < 4 {
-        if let Err(FillError::NotPresent) = rt.arg(count, &mut []) {
-            break;
+    for i in 0..4 {
+        if let Err(FillError::NotPresent) = rt.arg(i, &mut []) {
+            return i;
         }
-        count += 1;
     }
-    count
+    4
 }
 
 // Whether the first argument asks for help.
