@@ -6,8 +6,8 @@
 
 ghost use Rattle.std.specs.Prelude.{◌≡◌, length};
 
-use libc::STDOUT_FILENO;
 use order_roots::Root;
+use std::io;
 use std::num::wrapping_sub_u32;
 use types::{Entry, PhysPage};
 
@@ -46,9 +46,16 @@ fn block() -> [u8; 160] {
     block
 }
 
+// As many zeros as RAM of 16 pages has bytes.
+fn image_space() -> [u8; 65536]
+    ensures { 65536 ≡ length result }
+{
+    [0; 65536]
+}
+
 // The image, and zeros after it: the first word of each section.
 fn image() -> [u8; 65536] {
-    let mut flash = io::large_buffer();
+    let mut flash = image_space();
     word_stores::put_word(&mut flash, 0, 0x1111_1111);
     word_stores::put_word(&mut flash, 0x140, 0xBBBB_BBBB);
     word_stores::put_word(&mut flash, 0x1020, 0xAAAA_AAAA);
@@ -62,37 +69,36 @@ fn ram_space() -> [u8; RAM]
     [0; RAM]
 }
 
-fn print(text: &[u8]) {
-    io::write_all(STDOUT_FILENO, text);
+fn print(rt: &impl Print, text: &[u8]) -> io::Result<()> {
+    rt.write_all(text)
 }
 
-fn print_number(n: u32) {
-    io::print_decimal(STDOUT_FILENO, n as u64);
+fn print_number(rt: &impl Print, n: u32) -> io::Result<()> {
+    rt.print(n)
 }
 
 // A word as `0x` and eight hexadecimal digits.
-fn print_word(w: u32) {
-    print(b"0x");
-    io::print_hex(STDOUT_FILENO, w as u64, 8);
+fn print_word(rt: &impl Print, w: u32) -> io::Result<()> {
+    print(rt, b"0x")?;
+    print!(rt; "{w:08x}")
 }
 
 // The page of RAM, or of flash, at a physical page.
-fn print_page(page: PhysPage) {
+fn print_page(rt: &impl Print, page: PhysPage) -> io::Result<()> {
     if page.0 < START / 4096 {
-        print(b"flash page ");
-        print_number(wrapping_sub_u32(page.0, FLASH_START / 4096));
-        return;
+        print(rt, b"flash page ")?;
+        return print_number(rt, wrapping_sub_u32(page.0, FLASH_START / 4096));
     }
-    print(b"page ");
-    print_number(wrapping_sub_u32(page.0, START / 4096));
+    print(rt, b"page ")?;
+    print_number(rt, wrapping_sub_u32(page.0, START / 4096))
 }
 
 // `page 15: section B`, `flash page 1: section A`
-fn print_use(page: PhysPage, name: &[u8]) {
-    print_page(page);
-    print(b": ");
-    print(name);
-    print(b"\n");
+fn print_use(rt: &impl Print, page: PhysPage, name: &[u8]) -> io::Result<()> {
+    print_page(rt, page)?;
+    print(rt, b": ")?;
+    print(rt, name)?;
+    print(rt, b"\n")
 }
 
 // Word i of a physical page of RAM.
@@ -131,60 +137,103 @@ fn root_of(block: &[u8], flash: &[u8], q: u32) -> PhysPage {
     }
 }
 
-fn print_sections(ram: &[u8], kernel: PhysPage, second: PhysPage, third: PhysPage) {
-    print_use(page_at(ram, second, 0x0001_0020), b"section A of process 2");
-    print_use(page_at(ram, second, 0x0002_0140), b"section B of process 2");
-    print_use(page_at(ram, second, 0x0003_0000), b"section C of process 2");
-    print_use(page_at(ram, third, 0x0005_0020), b"section D of process 3");
-    print_use(page_at(ram, kernel, 0xFFC0_0000), b"kernel section");
-    print_use(page_at(ram, kernel, 0xFFF4_0000), b"tracker");
-    print_use(page_at(ram, kernel, 0xFFF8_0000), b"process list");
-    print_use(page_at(ram, kernel, 0xFFF0_0000), b"block copy");
+fn print_sections(
+    rt: &impl Print,
+    ram: &[u8],
+    kernel: PhysPage,
+    second: PhysPage,
+    third: PhysPage,
+) -> io::Result<()> {
+    print_use(
+        rt,
+        page_at(ram, second, 0x0001_0020),
+        b"section A of process 2",
+    )?;
+    print_use(
+        rt,
+        page_at(ram, second, 0x0002_0140),
+        b"section B of process 2",
+    )?;
+    print_use(
+        rt,
+        page_at(ram, second, 0x0003_0000),
+        b"section C of process 2",
+    )?;
+    print_use(
+        rt,
+        page_at(ram, third, 0x0005_0020),
+        b"section D of process 3",
+    )?;
+    print_use(rt, page_at(ram, kernel, 0xFFC0_0000), b"kernel section")?;
+    print_use(rt, page_at(ram, kernel, 0xFFF4_0000), b"tracker")?;
+    print_use(rt, page_at(ram, kernel, 0xFFF8_0000), b"process list")?;
+    print_use(rt, page_at(ram, kernel, 0xFFF0_0000), b"block copy")
 }
 
-fn print_tables(ram: &[u8], kernel: PhysPage, second: PhysPage, third: PhysPage) {
-    print_use(kernel, b"kernel root table");
-    print_use(leaf_at(ram, kernel, 1023), b"kernel leaf table");
-    print_use(second, b"root table of process 2");
-    print_use(leaf_at(ram, second, 0), b"its leaf table for slot 0");
-    print_use(leaf_at(ram, second, 511), b"its leaf table for slot 511");
-    print_use(third, b"root table of process 3");
-    print_use(leaf_at(ram, third, 0), b"its leaf table for slot 0");
-    print_use(leaf_at(ram, third, 511), b"its leaf table for slot 511");
+fn print_tables(
+    rt: &impl Print,
+    ram: &[u8],
+    kernel: PhysPage,
+    second: PhysPage,
+    third: PhysPage,
+) -> io::Result<()> {
+    print_use(rt, kernel, b"kernel root table")?;
+    print_use(rt, leaf_at(ram, kernel, 1023), b"kernel leaf table")?;
+    print_use(rt, second, b"root table of process 2")?;
+    print_use(rt, leaf_at(ram, second, 0), b"its leaf table for slot 0")?;
+    print_use(
+        rt,
+        leaf_at(ram, second, 511),
+        b"its leaf table for slot 511",
+    )?;
+    print_use(rt, third, b"root table of process 3")?;
+    print_use(rt, leaf_at(ram, third, 0), b"its leaf table for slot 0")?;
+    print_use(rt, leaf_at(ram, third, 511), b"its leaf table for slot 511")
 }
 
 // `0x00010020: entry 0x0800045b, word 0xaaaaaaaa`: an address in slot 0, the entry of its page, and the word that is seen there.
-fn print_seen<'a>(ram: &'a [u8], flash: &'a [u8], root: PhysPage, address: u32) {
+fn print_seen<'a>(
+    rt: &impl Print,
+    ram: &'a [u8],
+    flash: &'a [u8],
+    root: PhysPage,
+    address: u32,
+) -> io::Result<()> {
     let page = sv32_pages::page(ram, START, flash, FLASH_START, root, address);
-    print_word(address);
-    print(b": entry ");
-    print_word(word_of(ram, leaf_at(ram, root, 0), address / 4096));
-    print(b", word ");
-    print_word(slices::word(page, (address % 4096) as usize));
-    print(b"\n");
+    print_word(rt, address)?;
+    print(rt, b": entry ")?;
+    print_word(rt, word_of(ram, leaf_at(ram, root, 0), address / 4096))?;
+    print(rt, b", word ")?;
+    print_word(rt, slices::word(page, (address % 4096) as usize))?;
+    print(rt, b"\n")
 }
 
-fn print_board<'a>(block: &[u8], flash: &'a [u8], ram: &'a [u8]) {
+fn print_board<'a>(
+    rt: &impl Print,
+    block: &[u8],
+    flash: &'a [u8],
+    ram: &'a [u8],
+) -> io::Result<()> {
     let kernel = root_of(block, flash, 1);
     let second = root_of(block, flash, 2);
     let third = root_of(block, flash, 3);
-    print_sections(ram, kernel, second, third);
-    print_tables(ram, kernel, second, third);
-    print_seen(ram, flash, second, 0x0001_0020);
-    print_seen(ram, flash, second, 0x0002_0140);
-    print_seen(ram, flash, second, 0x0003_0000);
-    print_seen(ram, flash, third, 0x0005_0020);
+    print_sections(rt, ram, kernel, second, third)?;
+    print_tables(rt, ram, kernel, second, third)?;
+    print_seen(rt, ram, flash, second, 0x0001_0020)?;
+    print_seen(rt, ram, flash, second, 0x0002_0140)?;
+    print_seen(rt, ram, flash, second, 0x0003_0000)?;
+    print_seen(rt, ram, flash, third, 0x0005_0020)
 }
 
-fn main() {
+fn main(rt: HostRuntime) -> io::Result<()> {
     let block = block();
     let image = image();
     let flash = slices::part(&image, 0, FLASH);
     let mut ram = ram_space();
     let answer = loader::load(&block, flash, FLASH_START, &mut ram, START);
-    print_number(answer.taken);
-    print(b" pages taken, ");
-    print_number(answer.free);
-    print(b" free\n");
-    print_board(&block, flash, &ram);
+    print_number(&rt, answer.taken)?;
+    print(&rt, b" pages taken, ")?;
+    print_number(&rt, answer.free)?;
+    print(&rt, b" free\n")?;
+    print_board(&rt, &block, flash, &ram)
 }

@@ -2,21 +2,23 @@
 // not absent, and the satp words. All is drawn from RAM by the reader, starting at the root table of process 2.
 #![tactic(auto)]
 
-use libc::STDOUT_FILENO;
+ghost use Rattle.std.specs.Prelude.{◌≡◌, length};
+
 use page_allocator::physical;
 use small_block::START;
+use std::io;
 use std::num::{wrapping_add_u32, wrapping_sub_u32};
 use types::{Entry, PageRange, PhysPage, RamPage};
 
 // Where flash starts.
 const FLASH_START: u32 = 0x2000_0000;
 
-fn print(text: &[u8]) {
-    io::write_all(STDOUT_FILENO, text);
+fn print(rt: &impl Print, text: &[u8]) -> io::Result<()> {
+    rt.write_all(text)
 }
 
-fn print_number(n: u32) {
-    io::print_decimal(STDOUT_FILENO, n as u64);
+fn print_number(rt: &impl Print, n: u32) -> io::Result<()> {
+    rt.print(n)
 }
 
 // A hexadecimal digit, with a capital letter.
@@ -26,7 +28,7 @@ fn digit(n: u32) -> u8 {
 }
 
 // A word as `0x` and eight hexadecimal digits.
-fn print_word(w: u32) {
+fn print_word(rt: &impl Print, w: u32) -> io::Result<()> {
     let text = [
         b'0',
         b'x',
@@ -39,7 +41,14 @@ fn print_word(w: u32) {
         digit(w / 0x10),
         digit(w),
     ];
-    print(&text);
+    print(rt, &text)
+}
+
+// RAM of 16 pages, all zeros.
+fn ram_space() -> [u8; 65536]
+    ensures { 65536 ≡ length result }
+{
+    [0; 65536]
 }
 
 // The board's RAM.
@@ -61,12 +70,12 @@ fn word_of(ram: &[u8], page: PhysPage, i: u32) -> u32 {
 }
 
 // `page 11: section A`
-fn print_use(page: PhysPage, name: &[u8]) {
-    print(b"page ");
-    print_number(ram_page(page));
-    print(b": ");
-    print(name);
-    print(b"\n");
+fn print_use(rt: &impl Print, page: PhysPage, name: &[u8]) -> io::Result<()> {
+    print(rt, b"page ")?;
+    print_number(rt, ram_page(page))?;
+    print(rt, b": ")?;
+    print(rt, name)?;
+    print(rt, b"\n")
 }
 
 // The physical page that the reader answers at an address; 0 where it answers none.
@@ -103,87 +112,90 @@ fn root_of(ram: &[u8], root: PhysPage, q: u32) -> PhysPage {
 }
 
 // Every use in the order of pages, then the pages that the tracker calls free.
-fn print_uses(ram: &[u8], root: PhysPage) {
+fn print_uses(rt: &impl Print, ram: &[u8], root: PhysPage) -> io::Result<()> {
     let kernel = root_of(ram, root, 1);
     let user = root_of(ram, root, 2);
-    print_use(page_at(ram, user, 0x0001_0020), b"section A");
-    print_use(page_at(ram, user, 0x0002_0000), b"section B");
-    print_use(page_at(ram, kernel, 0xFFC0_0000), b"kernel section");
-    print_use(page_at(ram, kernel, 0xFFF4_0000), b"tracker");
-    print_use(page_at(ram, kernel, 0xFFF8_0000), b"process list");
-    print_use(page_at(ram, kernel, 0xFFF0_0000), b"block copy");
-    print_use(kernel, b"kernel root table");
-    print_use(leaf_at(ram, kernel, 1023), b"kernel leaf table");
-    print_use(user, b"root table of process 2");
-    print_use(leaf_at(ram, user, 0), b"its leaf table for slot 0");
-    print_use(leaf_at(ram, user, 511), b"its leaf table for slot 511");
+    print_use(rt, page_at(ram, user, 0x0001_0020), b"section A")?;
+    print_use(rt, page_at(ram, user, 0x0002_0000), b"section B")?;
+    print_use(rt, page_at(ram, kernel, 0xFFC0_0000), b"kernel section")?;
+    print_use(rt, page_at(ram, kernel, 0xFFF4_0000), b"tracker")?;
+    print_use(rt, page_at(ram, kernel, 0xFFF8_0000), b"process list")?;
+    print_use(rt, page_at(ram, kernel, 0xFFF0_0000), b"block copy")?;
+    print_use(rt, kernel, b"kernel root table")?;
+    print_use(rt, leaf_at(ram, kernel, 1023), b"kernel leaf table")?;
+    print_use(rt, user, b"root table of process 2")?;
+    print_use(rt, leaf_at(ram, user, 0), b"its leaf table for slot 0")?;
+    print_use(rt, leaf_at(ram, user, 511), b"its leaf table for slot 511")
 }
 
-fn print_if_free(tracker: &[u8], k: u32) {
+fn print_if_free(rt: &impl Print, tracker: &[u8], k: u32) -> io::Result<()> {
     if slices::byte(tracker, k as usize) == 0 {
-        print_use(physical(board(), RamPage(k)), b"free");
+        print_use(rt, physical(board(), RamPage(k)), b"free")?;
     }
+    Ok(())
 }
 
-fn print_free(ram: &[u8], root: PhysPage) {
+fn print_free(rt: &impl Print, ram: &[u8], root: PhysPage) -> io::Result<()> {
     let at = ram_page(page_at(ram, root, 0xFFF4_0000));
     let tracker = slices::tail(ram, 4096 * (at as usize));
     let mut k: u32 = 0;
     while k < 16 {
-        print_if_free(tracker, k);
+        print_if_free(rt, tracker, k)?;
         k += 1;
     }
+    Ok(())
 }
 
 // `page 2 entry 16: 0x10002C5B`; nothing where the entry is absent.
-fn print_entry(ram: &[u8], table: PhysPage, i: u32) {
+fn print_entry(rt: &impl Print, ram: &[u8], table: PhysPage, i: u32) -> io::Result<()> {
     let word = word_of(ram, table, i);
     let entry = sv32_entries::decode(word);
     if let Entry::Absent = entry {
-        return;
+        return Ok(());
     }
-    print(b"page ");
-    print_number(ram_page(table));
-    print(b" entry ");
-    print_number(i);
-    print(b": ");
-    print_word(word);
-    print(b"\n");
+    print(rt, b"page ")?;
+    print_number(rt, ram_page(table))?;
+    print(rt, b" entry ")?;
+    print_number(rt, i)?;
+    print(rt, b": ")?;
+    print_word(rt, word)?;
+    print(rt, b"\n")
 }
 
-fn print_table(ram: &[u8], table: PhysPage) {
+fn print_table(rt: &impl Print, ram: &[u8], table: PhysPage) -> io::Result<()> {
     let mut i: u32 = 0;
     while i < 1024 {
-        print_entry(ram, table, i);
+        print_entry(rt, ram, table, i)?;
         i += 1;
     }
+    Ok(())
 }
 
-fn print_tables(ram: &[u8], root: PhysPage) {
+fn print_tables(rt: &impl Print, ram: &[u8], root: PhysPage) -> io::Result<()> {
     let kernel = root_of(ram, root, 1);
     let user = root_of(ram, root, 2);
-    print_table(ram, kernel);
-    print_table(ram, leaf_at(ram, kernel, 1023));
-    print_table(ram, user);
-    print_table(ram, leaf_at(ram, user, 0));
-    print_table(ram, leaf_at(ram, user, 511));
+    print_table(rt, ram, kernel)?;
+    print_table(rt, ram, leaf_at(ram, kernel, 1023))?;
+    print_table(rt, ram, user)?;
+    print_table(rt, ram, leaf_at(ram, user, 0))?;
+    print_table(rt, ram, leaf_at(ram, user, 511))
 }
 
-fn main() {
+fn main(rt: HostRuntime) -> io::Result<()> {
     let block = small_block::block();
     let flash = [0u8; small_block::FLASH];
-    let mut ram = io::large_buffer();
+    let mut ram = ram_space();
     let answer = loader::load(&block, &flash, FLASH_START, &mut ram, START);
     // The tables of the last process are the lowest pages taken, its root the highest of them.
     let tables = order_leaves::table_count(&block, 2);
     let highest = wrapping_add_u32(answer.free, wrapping_sub_u32(tables, 1));
     let root = physical(board(), RamPage(highest));
-    print_uses(&ram, root);
-    print_free(&ram, root);
-    print_tables(&ram, root);
-    print(b"satp of process 1: ");
-    print_word(satp(&ram, root, 1));
-    print(b"\nsatp of process 2: ");
-    print_word(satp(&ram, root, 2));
-    print(b"\n");
+    print_uses(&rt, &ram, root)?;
+    print_free(&rt, &ram, root)?;
+    print_tables(&rt, &ram, root)?;
+    print(&rt, b"satp of process 1: ")?;
+    print_word(&rt, satp(&ram, root, 1))?;
+    print(&rt, b"\nsatp of process 2: ")?;
+    print_word(&rt, satp(&ram, root, 2))?;
+    print(&rt, b"\n")
 }

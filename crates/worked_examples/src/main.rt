@@ -1,7 +1,9 @@
 // P1 to P12 of 01: the small board with one change each, listed.
 #![tactic(auto)]
 
-use libc::STDOUT_FILENO;
+ghost use Rattle.std.specs.Prelude.{◌≡◌, length};
+
+use std::io;
 
 // The small board's entry point of process 2, the address of B and the start of the region.
 const ENTRY: u32 = 0x0001_0020;
@@ -16,10 +18,23 @@ const FOUR_PAGES: u32 = 0x0400;
 // Where flash starts.
 const FLASH_START: u32 = 0x2000_0000;
 
+// RAM of 16 pages, all zeros.
+fn ram_space() -> [u8; 65536]
+    ensures { 65536 ≡ length result }
+{
+    [0; 65536]
+}
+
 // Prints the name and the listing. Flash has 320 bytes at most, RAM 16 pages.
-fn list(name: &[u8], block: &[u8], flash_bytes: usize, pages: usize) {
+fn list(
+    rt: &impl Print,
+    name: &[u8],
+    block: &[u8],
+    flash_bytes: usize,
+    pages: usize,
+) -> io::Result<()> {
     let flash = [0u8; small_block::FLASH];
-    let mut ram = io::large_buffer();
+    let mut ram = ram_space();
     let end = numbers::least(4096 * numbers::least(pages, 16), 65536);
     let mut text = [0u8; 1024];
     let n = report::load_listing(
@@ -30,29 +45,36 @@ fn list(name: &[u8], block: &[u8], flash_bytes: usize, pages: usize) {
         small_block::START,
         &mut text,
     );
-    io::write_all(STDOUT_FILENO, name);
-    io::write_all(STDOUT_FILENO, slices::part(&text, 0, n));
+    rt.write_all(name)?;
+    rt.write_all(slices::part(&text, 0, n))
 }
 
 // The block of these values, on RAM of 16 pages, with all of flash.
-fn list_board(name: &[u8], entry_point: u32, kind_word: u32, section_b: u32, region: u32) {
+fn list_board(
+    rt: &impl Print,
+    name: &[u8],
+    entry_point: u32,
+    kind_word: u32,
+    section_b: u32,
+    region: u32,
+) -> io::Result<()> {
     let block = small_block::board(entry_point, kind_word, section_b, region);
-    list(name, &block, small_block::FLASH, 16);
+    list(rt, name, &block, small_block::FLASH, 16)
 }
 
-fn main() {
+fn main(rt: HostRuntime) -> io::Result<()> {
     let block = small_block::block();
-    list(b"P1\n", &block, small_block::FLASH, 16);
-    list(b"P2\n", &block, small_block::FLASH, 15);
-    list(b"P3\n", &block, small_block::FLASH, 14);
-    list(b"P4\n", &[], small_block::FLASH, 16);
-    list_board(b"P5\n", 0x0001_005F, 0, B, REGION);
-    list_board(b"P6\n", 0x0001_0060, 0, B, REGION);
-    list(b"P7\n", &block, 319, 16);
-    list_board(b"P8\n", ENTRY, 0, 0x0001_0060, REGION);
-    list_board(b"P9\n", ENTRY, 0, 0x0001_1000, REGION);
-    list_board(b"P10\n", ENTRY, FOUR_PAGES, 0x7FFF_B000, REGION);
-    list_board(b"P11\n", ENTRY, FOUR_PAGES, 0x7FFF_B001, REGION);
-    list_board(b"P12\n", ENTRY, 0, B, 0x4000_F000);
-    list_board(b"P12\n", ENTRY, 0, B, 0x4001_0000);
+    list(&rt, b"P1\n", &block, small_block::FLASH, 16)?;
+    list(&rt, b"P2\n", &block, small_block::FLASH, 15)?;
+    list(&rt, b"P3\n", &block, small_block::FLASH, 14)?;
+    list(&rt, b"P4\n", &[], small_block::FLASH, 16)?;
+    list_board(&rt, b"P5\n", 0x0001_005F, 0, B, REGION)?;
+    list_board(&rt, b"P6\n", 0x0001_0060, 0, B, REGION)?;
+    list(&rt, b"P7\n", &block, 319, 16)?;
+    list_board(&rt, b"P8\n", ENTRY, 0, 0x0001_0060, REGION)?;
+    list_board(&rt, b"P9\n", ENTRY, 0, 0x0001_1000, REGION)?;
+    list_board(&rt, b"P10\n", ENTRY, FOUR_PAGES, 0x7FFF_B000, REGION)?;
+    list_board(&rt, b"P11\n", ENTRY, FOUR_PAGES, 0x7FFF_B001, REGION)?;
+    list_board(&rt, b"P12\n", ENTRY, 0, B, 0x4000_F000)?;
+    list_board(&rt, b"P12\n", ENTRY, 0, B, 0x4001_0000)
 }
