@@ -1,6 +1,5 @@
 -- Digits read one after the other.
 use mathlib.Core.Path.{◌≡◌, refl, sym, ap, ◌∙◌}
-use mathlib.Core.Logic.{◌≢◌}
 use mathlib.Core.List.{List, [], ◌∷◌}
 use mathlib.Core.Bool.{Bool, true, false}
 use Prim.Native.Nat.{ℕ, suc, ◌+◌, ◌-◌, ◌*◌, ◌≤◌, ◌<◌, min}
@@ -8,13 +7,13 @@ use native.Mathlib.Nat.{mul-le-mul, le_refl, mul-one}
 use native.Mathlib.Numerals.{add-one}
 use native.Mathlib.Decide.{dec_lt}
 use native.Mathlib.Omega.{arith}
-use lib.Dec.{leb, eqb}
+use lib.Dec.{leb}
 use lib.ListN.{length, get_or, drop}
 use lib.Seq.{drop-cons, drop-length}
-use borrow.Author.Tests.{leb-true, lt-ltb, le-ltb, eq-eqb, ne_eqb}
+use borrow.Author.Tests.{leb-true, lt-ltb, le-ltb}
 use Rattle.notation.specs.Lists.{some_of}
-use Rattle.laws.specs.Choice.{choose_yes, choose_no, and_left, and_right, and_both, and_not_left, and_not_right}
-use Rattle.numerals.specs.Numerals.{between, digit, spelled, value_from, in_base, number_of}
+use Rattle.laws.specs.Choice.{choose_yes, choose_no, and_left, and_right}
+use Rattle.numerals.specs.Numerals.{between, digit, spelled, value_from, in_base}
 use Rattle.numerals.specs.declared.Number.TheVariants.{Value, TooLarge, NotOne}
 
 -- BETWEEN

@@ -8,15 +8,12 @@ use native.Mathlib.Omega.{arith}
 use lib.ListN.{length, get_or, set, length-set}
 use lib.Seq.{ext_get_or, get_or-set_same, get_or-set_other}
 use lib.Dec.{leb, ltb}
-use types.Run.{OneOf, miss}
-use denote.Enum.Declared.{tag_of}
 use borrow.Author.Tests.{le-leb, lt-leb, lt-ltb, le-ltb}
 use Rattle.laws.specs.Choice.{choose_yes, choose_no}
 use Rattle.laws.specs.Lists.{tab_length, tab_get}
 use Rattle.stores.specs.Writes.{copied}
 use Rattle.text.specs.Text.{Appended}
 use Rattle.text.proofs.Appended.{appended_none, appended_then}
-use Rattle.record_lines.specs.contracts.Line.{the_type}
 use Rattle.record_lines.specs.declared.Line.{Line}
 use Rattle.record_lines.specs.declared.Line.TheVariants.{Empty, Process, Section, Region, UnknownWord, WrongCount, NotNumber, TooLarge}
 use Rattle.record_texts.specs.Texts.{process_words, section_words, region_words, words_of}

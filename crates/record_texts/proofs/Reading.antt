@@ -14,7 +14,7 @@ use Rattle.record_fields.proofs.Pieces.{count_before_nil, count_before_here, cou
 use Rattle.record_fields.proofs.Cursor.{cursor_first, cursor_next}
 use Rattle.record_lines.specs.declared.Line.{Line}
 use Rattle.record_lines.specs.Lines.{line_of, faulty}
-use Rattle.record_texts.specs.Texts.{line_feed, mark_length, lines, sound_lines, process_words, section_words, region_words, words_of}
+use Rattle.record_texts.specs.Texts.{line_feed, mark_length, sound_lines, process_words, section_words, region_words, words_of}
 use Rattle.record_texts.proofs.Held.{words_nil, words_next}
 use Rattle.record_texts.proofs.Walk.{AtLine, lines_in, lines_nil, line_is, line_first, line_next}
 

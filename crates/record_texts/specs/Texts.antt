@@ -1,5 +1,5 @@
 -- The records of a text, a line for each.
-use Rattle.std.specs.Prelude.{Bool, ◌&&◌, List, [], ◌∷◌, ◌++◌, map, ℕ, ◌+◌, eqb, get_or, drop}
+use Rattle.std.specs.Prelude.{Bool, ◌&&◌, List, [], ◌∷◌, ◌++◌, map, ℕ, eqb, get_or, drop}
 use Rattle.notation.specs.Choice.{choose}
 use Rattle.record_fields.specs.Fields.{before, pieces}
 use Rattle.record_lines.specs.declared.Line.{Line}

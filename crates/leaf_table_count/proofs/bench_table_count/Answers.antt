@@ -1,7 +1,6 @@
 use mathlib.Core.Path.{sym, ◌∙◌}
 use borrow.Author.Tests.{lt-ltb, le-ltb}
 use Rattle.laws.specs.Choice.{choose_yes, choose_no}
-use borrow.Author.Rules.{rules}
 use Rattle.leaf_table_count.proofs.bench_table_count.Goals as goal
 
 pub returns-then-record-gt-SECTIONS_MAX : goal.returns-then-record-gt-SECTIONS_MAX

@@ -4,7 +4,6 @@ use Rattle.rules.specs.Lent.{image_of, memory_of, memory_area}
 use Rattle.xip_sections.specs.Marks.{marked}
 use Rattle.checks.proofs.Answers.{marked_answer_is, boot_marks}
 use Rattle.loader.proofs.Accepted.{full_answer, ram_kept, ram_loaded, ram_accepted, flash_numbers, taken_needed}
-use borrow.Author.Rules.{rules}
 use Rattle.loader.proofs.load.Goals as goal
 
 pub returns-then-full-ne0 : goal.returns-then-full-ne0

@@ -1,6 +1,5 @@
 use Rattle.writing.specs.Pages.{put_part}
 use mathlib.Core.Path.{◌∙◌}
-use borrow.Author.Rules.{rules}
 use Rattle.loader.proofs.load_block.Goals as goal
 
 pub returns : goal.returns

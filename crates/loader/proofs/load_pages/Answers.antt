@@ -5,7 +5,6 @@ use lib.ListN.{length}
 use Rattle.xip_sections.specs.Marks.{marked}
 use Rattle.loader.proofs.Loading.{needed_four, list_place, tables_place, list_room, pages_end}
 use native.Mathlib.Omega.{arith}
-use borrow.Author.Rules.{rules}
 use Rattle.loader.proofs.load_pages.Goals as goal
 
 pub overflow_sub-below_top : goal.overflow_sub-below_top

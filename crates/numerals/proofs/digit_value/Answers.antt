@@ -1,7 +1,6 @@
 use mathlib.Core.Path.{sym, ◌∙◌}
 use Rattle.numerals.proofs.Digits.{between_low, digit_decimal, digit_capital, digit_small, digit_none}
 use native.Mathlib.Omega.{arith}
-use borrow.Author.Rules.{rules}
 use Rattle.numerals.proofs.digit_value.Goals as goal
 
 pub overflow_sub-result : goal.overflow_sub-result

@@ -1,7 +1,5 @@
 use mathlib.Core.Path.{sym, ◌∙◌}
-use borrow.Author.Tests.{not-true, not-false}
 use Rattle.numerals.proofs.Digits.{in_base_none, in_base_value, in_base_large}
-use borrow.Author.Rules.{rules}
 use Rattle.numerals.proofs.in_base.Goals as goal
 
 pub returns-then-not-is_spelled : goal.returns-then-not-is_spelled

@@ -2,7 +2,6 @@ use borrow.Author.Tests.{eq-eqb, ne_eqb}
 use Rattle.notation.specs.Choice.{any}
 use Rattle.laws.specs.Choice.{or_none}
 use Rattle.numerals.specs.Numerals.{marked}
-use borrow.Author.Rules.{rules}
 use Rattle.numerals.proofs.is_marked.Goals as goal
 
 pub returns-then-byte-ne48 : goal.returns-then-byte-ne48

@@ -1,12 +1,8 @@
 use mathlib.Core.Path.{sym}
-use Prim.Native.Nat.{◌-◌}
-use lib.Dec.{leb}
-use lib.ListN.{length}
 use borrow.Author.Tests.{le-leb, lt-leb}
 use Rattle.laws.specs.Choice.{choose_yes, choose_no}
-use Rattle.numerals.specs.Numerals.{digit, spelled}
-use Rattle.numerals.proofs.Digits.{Searched, searched_none, searched_next, searched_here, searched_all}
-use borrow.Author.Rules.{rules}
+use Rattle.numerals.specs.Numerals.{spelled}
+use Rattle.numerals.proofs.Digits.{searched_none, searched_next, searched_here, searched_all}
 use Rattle.numerals.proofs.is_spelled.Goals as goal
 
 pub loop-i-init : goal.loop-i-init

@@ -1,7 +1,6 @@
 use mathlib.Core.Path.{sym, ap, ◌∙◌}
 use Rattle.laws.specs.Choice.{choose_yes, choose_no}
 use Rattle.numerals.specs.Numerals.{in_base, number_of}
-use borrow.Author.Rules.{rules}
 use Rattle.numerals.proofs.read_number.Goals as goal
 
 pub returns-then-is_marked : goal.returns-then-is_marked

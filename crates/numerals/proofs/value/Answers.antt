@@ -1,9 +1,7 @@
-use Prim.Native.Nat.{◌*◌, ◌-◌, ◌≤◌}
+use Prim.Native.Nat.{◌*◌, ◌≤◌}
 use native.Mathlib.Nat.{mul-le-mul}
-use lib.ListN.{length}
-use Rattle.numerals.proofs.Digits.{Valued, valued_none, valued_next, valued_all}
+use Rattle.numerals.proofs.Digits.{valued_none, valued_next, valued_all}
 use native.Mathlib.Omega.{arith}
-use borrow.Author.Rules.{rules}
 use Rattle.numerals.proofs.value.Goals as goal
 
 pub loop-i-init : goal.loop-i-init

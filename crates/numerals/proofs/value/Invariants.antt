@@ -1,9 +1,6 @@
-use Prim.Native.Nat.{◌*◌, ◌-◌, ◌≤◌}
-use native.Mathlib.Nat.{mul-le-mul}
+use Prim.Native.Nat.{◌-◌}
 use lib.ListN.{length}
-use Rattle.numerals.proofs.Digits.{Valued, valued_none, valued_next, valued_all}
-use native.Mathlib.Omega.{arith}
-use borrow.Author.Rules.{rules}
+use Rattle.numerals.proofs.Digits.{Valued}
 use Rattle.numerals.proofs.value.Given as goal
 
 abbrev pub invariant-loop-i : goal.invariant-loop-i

@@ -1,12 +1,8 @@
 use mathlib.Core.Path.{sym, ◌∙◌}
-use Prim.Native.Nat.{◌-◌}
-use lib.Dec.{eqb}
-use lib.ListN.{length}
 use lib.Seq.{take_all}
 use borrow.Author.Tests.{eq-eqb, ne_eqb}
 use Rattle.record_fields.specs.Fields.{before}
-use Rattle.record_fields.proofs.Pieces.{Passed, passed_none, passed_next, passed_here, passed_all}
-use borrow.Author.Rules.{rules}
+use Rattle.record_fields.proofs.Pieces.{passed_none, passed_next, passed_here, passed_all}
 use Rattle.record_fields.proofs.before.Goals as goal
 
 pub loop-i-init : goal.loop-i-init

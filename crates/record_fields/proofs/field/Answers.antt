@@ -1,10 +1,8 @@
 use mathlib.Core.Path.{◌≡◌, ◌∙◌}
-use Prim.Native.Nat.{◌-◌, ◌≤◌}
 use native.Mathlib.Omega.{arith}
 use Rattle.notation.specs.Choice.{choose}
 use Rattle.record_fields.specs.Fields.{hash, fields}
-use Rattle.record_fields.proofs.Fields.{AtField, field_first, field_next, field_none, field_here}
-use borrow.Author.Rules.{rules}
+use Rattle.record_fields.proofs.Fields.{field_first, field_next, field_none, field_here}
 use Rattle.record_fields.proofs.field.Goals as goal
 
 pub loop-k-init : goal.loop-k-init

@@ -1,10 +1,7 @@
 use mathlib.Core.Path.{◌∙◌}
-use Prim.Native.Nat.{◌-◌}
 use native.Mathlib.Omega.{arith}
-use lib.ListN.{length}
 use Rattle.record_fields.specs.Fields.{hash, fields}
-use Rattle.record_fields.proofs.Fields.{AtField, field_first, field_moves, field_next, field_count_is}
-use borrow.Author.Rules.{rules}
+use Rattle.record_fields.proofs.Fields.{field_first, field_moves, field_next, field_count_is}
 use Rattle.record_fields.proofs.field_count.Goals as goal
 
 pub loop-at-init : goal.loop-at-init

@@ -3,7 +3,6 @@ use native.Mathlib.Omega.{arith}
 use Rattle.notation.specs.Choice.{choose}
 use Rattle.record_fields.specs.Fields.{separator}
 use Rattle.record_fields.proofs.Pieces.{count_before_tail}
-use borrow.Author.Rules.{rules}
 use Rattle.record_fields.proofs.field_start.Goals as goal
 
 pub overflow_add-result : goal.overflow_add-result

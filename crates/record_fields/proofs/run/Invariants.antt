@@ -1,14 +1,9 @@
-use mathlib.Core.Path.{sym, ◌∙◌}
 use mathlib.Core.Bool.{not}
 use Prim.Native.Nat.{◌-◌}
 use lib.ListN.{length}
 use Rattle.notation.specs.Choice.{choose}
 use Rattle.record_fields.specs.Fields.{separator}
-use Rattle.record_fields.proofs.Pieces.{Passed, passed_none, passed_next, passed_here, passed_all}
-use borrow.Author.Rules.{rules}
-use Rattle.record_fields.proofs.run.Reads as reads
-use Rattle.record_fields.proofs.run.Lts as lts
-use Rattle.record_fields.proofs.stops.Reads as stops-reads
+use Rattle.record_fields.proofs.Pieces.{Passed}
 use Rattle.record_fields.proofs.run.Given as goal
 
 abbrev pub invariant-loop-i : goal.invariant-loop-i

@@ -1,7 +1,6 @@
 use mathlib.Core.Path.{sym, ap, ◌∙◌}
 use mathlib.Core.Bool.{not}
 use Rattle.laws.specs.Choice.{choose_yes, choose_no}
-use borrow.Author.Rules.{rules}
 use Rattle.record_fields.proofs.stops.Goals as goal
 
 pub returns-then-until : goal.returns-then-until

@@ -1,4 +1,3 @@
-use borrow.Author.Rules.{rules}
 use Rattle.record_lines.proofs.fault_at.Goals as goal
 
 pub returns-in-Value : goal.returns-in-Value

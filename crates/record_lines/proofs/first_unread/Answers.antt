@@ -1,8 +1,5 @@
 use mathlib.Core.Path.{sym, ◌∙◌}
-use Prim.Native.Nat.{◌-◌}
-use Rattle.record_fields.specs.Fields.{fields}
-use Rattle.record_lines.proofs.Lines.{AllRead, all_read_none, all_read_next, all_read_not, all_read_end}
-use borrow.Author.Rules.{rules}
+use Rattle.record_lines.proofs.Lines.{all_read_none, all_read_next, all_read_not, all_read_end}
 use Rattle.record_lines.proofs.first_unread.Goals as goal
 
 pub loop-k-init : goal.loop-k-init

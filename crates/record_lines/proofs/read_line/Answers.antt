@@ -2,7 +2,6 @@ use mathlib.Core.Path.{◌∙◌}
 use Rattle.record_lines.specs.Lines.{line_of}
 use Rattle.record_lines.proofs.Lines.{said_empty, said_unknown, said_count, said_numbered}
 use native.Mathlib.Omega.{arith}
-use borrow.Author.Rules.{rules}
 use Rattle.record_lines.proofs.read_line.Goals as goal
 
 pub returns-then-count-eq0 : goal.returns-then-count-eq0

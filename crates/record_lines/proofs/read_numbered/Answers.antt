@@ -1,6 +1,5 @@
 use mathlib.Core.Path.{◌∙◌}
 use Rattle.record_lines.proofs.Lines.{numbered_fault, numbered_record}
-use borrow.Author.Rules.{rules}
 use Rattle.record_lines.proofs.read_numbered.Goals as goal
 
 pub returns-then-k-count : goal.returns-then-k-count

@@ -1,7 +1,6 @@
 use mathlib.Core.Path.{sym, ◌∙◌}
 use Rattle.laws.specs.Choice.{choose_yes, choose_no}
 use Rattle.record_lines.specs.Lines.{word_of}
-use borrow.Author.Rules.{rules}
 use Rattle.record_lines.proofs.read_word.Goals as goal
 
 pub returns-then-same : goal.returns-then-same

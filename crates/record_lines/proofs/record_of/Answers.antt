@@ -1,4 +1,3 @@
-use borrow.Author.Rules.{rules}
 use Rattle.record_lines.proofs.record_of.Goals as goal
 
 pub returns-in-Process : goal.returns-in-Process

@@ -1,7 +1,4 @@
-use Prim.Native.Nat.{◌-◌}
-use lib.ListN.{length}
-use Rattle.record_lines.proofs.Lines.{same_other_length, Matched, matched_none, matched_next, matched_not, matched_all}
-use borrow.Author.Rules.{rules}
+use Rattle.record_lines.proofs.Lines.{same_other_length, matched_none, matched_next, matched_not, matched_all}
 use Rattle.record_lines.proofs.same.Goals as goal
 
 pub returns-then-a-b : goal.returns-then-a-b

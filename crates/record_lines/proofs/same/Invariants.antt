@@ -1,7 +1,6 @@
 use Prim.Native.Nat.{◌-◌}
 use lib.ListN.{length}
-use Rattle.record_lines.proofs.Lines.{same_other_length, Matched, matched_none, matched_next, matched_not, matched_all}
-use borrow.Author.Rules.{rules}
+use Rattle.record_lines.proofs.Lines.{Matched}
 use Rattle.record_lines.proofs.same.Given as goal
 
 abbrev pub invariant-loop-i : goal.invariant-loop-i

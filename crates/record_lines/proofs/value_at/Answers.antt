@@ -1,6 +1,5 @@
 use mathlib.Core.Path.{◌∙◌}
 use Rattle.record_lines.specs.Lines.{value_at}
-use borrow.Author.Rules.{rules}
 use Rattle.record_lines.proofs.value_at.Goals as goal
 
 pub returns : goal.returns

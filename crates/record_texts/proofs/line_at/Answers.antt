@@ -1,9 +1,7 @@
 use mathlib.Core.Path.{◌≡◌, ◌∙◌}
-use Prim.Native.Nat.{◌-◌, ◌≤◌}
 use Rattle.record_texts.specs.Texts.{line_feed}
-use Rattle.record_texts.proofs.Walk.{AtLine, line_first, line_next, line_none, line_here}
+use Rattle.record_texts.proofs.Walk.{line_first, line_next, line_none, line_here}
 use native.Mathlib.Omega.{arith}
-use borrow.Author.Rules.{rules}
 use Rattle.record_texts.proofs.line_at.Goals as goal
 
 pub loop-k-init : goal.loop-k-init

@@ -1,6 +1,5 @@
 use Rattle.record_texts.proofs.Walk.{mark_not_first, mark_not_second, mark_not_third, mark_there}
 use native.Mathlib.Omega.{arith}
-use borrow.Author.Rules.{rules}
 use Rattle.record_texts.proofs.mark_length.Goals as goal
 
 pub returns-then-byte-ne239 : goal.returns-then-byte-ne239

@@ -1,7 +1,6 @@
 use Rattle.record_texts.specs.Texts.{line_feed}
 use Rattle.record_texts.proofs.Walk.{end_inside}
 use native.Mathlib.Omega.{arith}
-use borrow.Author.Rules.{rules}
 use Rattle.record_texts.proofs.next_line.Goals as goal
 
 pub overflow_add-end : goal.overflow_add-end

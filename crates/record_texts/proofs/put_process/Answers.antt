@@ -1,5 +1,4 @@
 use Rattle.record_texts.proofs.Held.{process_none, put_none}
-use borrow.Author.Rules.{rules}
 use Rattle.record_texts.proofs.put_process.Goals as goal
 
 pub returns-in-Process : goal.returns-in-Process

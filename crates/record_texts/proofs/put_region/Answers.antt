@@ -1,5 +1,4 @@
 use Rattle.record_texts.proofs.Held.{region_none, put_none}
-use borrow.Author.Rules.{rules}
 use Rattle.record_texts.proofs.put_region.Goals as goal
 
 pub returns-in-Region : goal.returns-in-Region

@@ -1,5 +1,4 @@
 use Rattle.record_texts.proofs.Held.{section_none, put_none}
-use borrow.Author.Rules.{rules}
 use Rattle.record_texts.proofs.put_section.Goals as goal
 
 pub returns-in-Section : goal.returns-in-Section

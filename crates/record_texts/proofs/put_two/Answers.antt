@@ -1,5 +1,4 @@
 use Rattle.text.proofs.Appended.{appended_then}
-use borrow.Author.Rules.{rules}
 use Rattle.record_texts.proofs.put_two.Goals as goal
 
 pub returns : goal.returns

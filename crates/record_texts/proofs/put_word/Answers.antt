@@ -1,5 +1,4 @@
 use Rattle.record_texts.proofs.Held.{put_full, put_one}
-use borrow.Author.Rules.{rules}
 use Rattle.record_texts.proofs.put_word.Goals as goal
 
 pub returns-then-to-at : goal.returns-then-to-at

@@ -1,10 +1,7 @@
 use mathlib.Core.Path.{sym, ◌∙◌}
-use Prim.Native.Nat.{◌-◌}
-use lib.ListN.{length}
 use Rattle.text.proofs.Appended.{appended_length}
 use Rattle.record_texts.specs.Texts.{line_feed}
-use Rattle.record_texts.proofs.Reading.{Reading, reading_none, reading_next, reading_fault, reading_end}
-use borrow.Author.Rules.{rules}
+use Rattle.record_texts.proofs.Reading.{reading_none, reading_next, reading_fault, reading_end}
 use Rattle.record_texts.proofs.read_records.Goals as goal
 
 pub loop-at-init : goal.loop-at-init

@@ -1,10 +1,6 @@
-use mathlib.Core.Path.{sym, ◌∙◌}
 use Prim.Native.Nat.{◌-◌}
 use lib.ListN.{length}
-use Rattle.text.proofs.Appended.{appended_length}
-use Rattle.record_texts.specs.Texts.{line_feed}
-use Rattle.record_texts.proofs.Reading.{Reading, reading_none, reading_next, reading_fault, reading_end}
-use borrow.Author.Rules.{rules}
+use Rattle.record_texts.proofs.Reading.{Reading}
 use Rattle.record_texts.proofs.read_records.Given as goal
 
 abbrev pub invariant-loop-at : goal.invariant-loop-at

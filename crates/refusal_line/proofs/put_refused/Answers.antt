@@ -1,6 +1,5 @@
 use Rattle.text.proofs.Appended.{appended_then}
 use Rattle.refusal_line.specs.Line.{refused_line}
-use borrow.Author.Rules.{rules}
 use Rattle.refusal_line.proofs.put_refused.Goals as goal
 
 pub returns : goal.returns

@@ -1,5 +1,4 @@
 use Rattle.report.specs.Lines.{boot_line}
-use borrow.Author.Rules.{rules}
 use Rattle.report.proofs.boot_line.Goals as goal
 
 pub returns : goal.returns

@@ -1,11 +1,9 @@
 use mathlib.Core.Path.{◌≡◌}
-use Prim.Native.Nat.{◌-◌, ◌≤◌}
+use Prim.Native.Nat.{◌-◌}
 use Rattle.rules.specs.Block.{process_count}
-use Rattle.order_laws.specs.Places.{user_pages}
 use Rattle.xip_sections.specs.Marks.{marked}
 use Rattle.report.proofs.Owned.{users_none, users_next}
 use native.Mathlib.Omega.{arith}
-use borrow.Author.Rules.{rules}
 use Rattle.report.proofs.kernel_pages.Goals as goal
 
 pub loop-i-init : goal.loop-i-init

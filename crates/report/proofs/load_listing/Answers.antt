@@ -1,7 +1,6 @@
 use Rattle.rules.specs.Lent.{image_of, memory_of}
 use Rattle.report.proofs.Lines.{listed_refused, listed_booted}
 use Rattle.report.proofs.Owned.{booted_kernel}
-use borrow.Author.Rules.{rules}
 use Rattle.report.proofs.load_listing.Goals as goal
 
 pub returns-then-answer-ne0 : goal.returns-then-answer-ne0

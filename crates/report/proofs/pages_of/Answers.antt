@@ -1,7 +1,6 @@
 use mathlib.Core.Path.{sym, ◌∙◌}
 use borrow.Author.Tests.{eq-eqb, ne_eqb}
 use Rattle.laws.specs.Choice.{choose_yes, choose_no}
-use borrow.Author.Rules.{rules}
 use Rattle.report.proofs.pages_of.Goals as goal
 
 pub returns-then-q-eq1 : goal.returns-then-q-eq1

@@ -1,6 +1,5 @@
 use Rattle.text.proofs.Appended.{appended_then}
 use Rattle.report.specs.Lines.{process_line}
-use borrow.Author.Rules.{rules}
 use Rattle.report.proofs.process_line.Goals as goal
 
 pub returns : goal.returns

@@ -1,15 +1,10 @@
 use mathlib.Core.Path.{◌≡◌}
-use Prim.Native.Nat.{◌+◌, ◌-◌, ◌≤◌}
-use Rattle.rules.specs.Lent.{area_of, pages_in}
+use Prim.Native.Nat.{◌+◌, ◌≤◌}
 use Rattle.rules.specs.Block.{process_count}
-use Rattle.rules.specs.InPlace.{in_place}
-use Rattle.text.specs.Text.{Appended}
-use Rattle.report.specs.Listing.{process_lines}
 use Rattle.text.proofs.Appended.{appended_none, appended_length}
 use Rattle.report.proofs.Lines.{lines_none, lines_next}
 use Rattle.report.proofs.Owned.{pages_owned}
 use native.Mathlib.Omega.{arith}
-use borrow.Author.Rules.{rules}
 use Rattle.report.proofs.process_lines.Goals as goal
 
 pub loop-i-init : goal.loop-i-init

@@ -1,7 +1,6 @@
 use Rattle.rules.specs.Lent.{image_of}
 use Rattle.order_roots.specs.declared.Root.TheVariants.{Nowhere, At}
 use Rattle.report.proofs.Owned.{root_is}
-use borrow.Author.Rules.{rules}
 use Rattle.report.proofs.root_page.Goals as goal
 
 pub returns-in-Nowhere : goal.returns-in-Nowhere

@@ -1,6 +1,5 @@
 use mathlib.Core.Path.{sym}
 use lib.Seq.{set_out}
-use borrow.Author.Rules.{rules}
 use Rattle.rigpollen.proofs.put.Goals as goal
 
 pub returns-else-at-words : goal.returns-else-at-words

@@ -1,6 +1,5 @@
 use Rattle.rigpollen.specs.Words.{rights_word}
 use native.Mathlib.Omega.{arith}
-use borrow.Author.Rules.{rules}
 use Rattle.rigpollen.proofs.rights_word.Goals as goal
 
 pub returns : goal.returns

@@ -1,6 +1,5 @@
 use mathlib.Core.Path.{ap}
 use Rattle.types.specs.declared.Answer.{Answer}
-use borrow.Author.Rules.{rules}
 use Rattle.rigpollen.proofs.rigpollen_check.Goals as goal
 
 pub returns : goal.returns

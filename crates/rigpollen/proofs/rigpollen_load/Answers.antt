@@ -1,6 +1,5 @@
 use mathlib.Core.Path.{ap}
 use Rattle.types.specs.declared.Answer.{Answer}
-use borrow.Author.Rules.{rules}
 use Rattle.rigpollen.proofs.rigpollen_load.Goals as goal
 
 pub returns : goal.returns

@@ -1,6 +1,5 @@
 use mathlib.Core.Path.{ap}
 use lib.ListN.{length}
-use borrow.Author.Rules.{rules}
 use Rattle.rigpollen.proofs.rigpollen_page.Goals as goal
 
 pub returns : goal.returns

@@ -1,6 +1,5 @@
 use Rattle.rules.specs.Lent.{image_of}
 use Rattle.rigpollen.proofs.Started.{process_refused, no_process, process_told}
-use borrow.Author.Rules.{rules}
 use Rattle.rigpollen.proofs.rigpollen_process.Goals as goal
 
 pub returns-then-verdict-ne0 : goal.returns-then-verdict-ne0

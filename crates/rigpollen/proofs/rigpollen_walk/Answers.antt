@@ -1,4 +1,3 @@
-use borrow.Author.Rules.{rules}
 use Rattle.rigpollen.proofs.rigpollen_walk.Goals as goal
 
 pub returns : goal.returns

@@ -1,6 +1,5 @@
 use mathlib.Core.Path.{ap}
 use Rattle.types.specs.declared.Written.{Written}
-use borrow.Author.Rules.{rules}
 use Rattle.rigpollen.proofs.rigpollen_write_block.Goals as goal
 
 pub returns : goal.returns

@@ -1,5 +1,4 @@
 use Rattle.rigpollen.proofs.Told.{answer_told}
-use borrow.Author.Rules.{rules}
 use Rattle.rigpollen.proofs.tell_answer.Goals as goal
 
 pub returns : goal.returns

@@ -1,5 +1,4 @@
 use Rattle.rigpollen.proofs.Told.{page_told}
-use borrow.Author.Rules.{rules}
 use Rattle.rigpollen.proofs.tell_entry.Goals as goal
 
 pub returns-in-Page : goal.returns-in-Page

@@ -1,5 +1,4 @@
 use Rattle.rigpollen.proofs.Started.{start_told}
-use borrow.Author.Rules.{rules}
 use Rattle.rigpollen.proofs.tell_process.Goals as goal
 
 pub returns : goal.returns

@@ -1,5 +1,4 @@
 use Rattle.rigpollen.proofs.Told.{written_told}
-use borrow.Author.Rules.{rules}
 use Rattle.rigpollen.proofs.tell_written.Goals as goal
 
 pub returns : goal.returns

@@ -1,5 +1,4 @@
 use Rattle.rules.specs.Examples.{small_board}
-use borrow.Author.Rules.{rules}
 use Rattle.small_block.proofs.block.Goals as goal
 
 pub returns : goal.returns

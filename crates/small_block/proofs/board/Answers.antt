@@ -3,7 +3,6 @@ use Rattle.notation.specs.Lists.{tab}
 use Rattle.notation.specs.Words.{byte_of, bytes_of}
 use Rattle.rules.specs.Examples.{board}
 use Rattle.word_stores.specs.Words.{with_words}
-use borrow.Author.Rules.{rules}
 use Rattle.small_block.proofs.board.Goals as goal
 
 pub returns : goal.returns

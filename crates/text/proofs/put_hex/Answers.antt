@@ -1,6 +1,5 @@
 use Rattle.text.proofs.Appended.{numeral_is}
 use native.Mathlib.Omega.{arith}
-use borrow.Author.Rules.{rules}
 use Rattle.text.proofs.put_hex.Goals as goal
 
 pub returns : goal.returns

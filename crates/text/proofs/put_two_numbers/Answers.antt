@@ -1,6 +1,5 @@
 use Rattle.text.proofs.Appended.{appended_then}
 use Rattle.text.specs.Text.{two_numbers}
-use borrow.Author.Rules.{rules}
 use Rattle.text.proofs.put_two_numbers.Goals as goal
 
 pub returns : goal.returns

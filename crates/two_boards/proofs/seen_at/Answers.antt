@@ -1,5 +1,4 @@
 use Rattle.two_boards.proofs.FromTheorems.{seen_by_way}
-use borrow.Author.Rules.{rules}
 use Rattle.two_boards.proofs.seen_at.Goals as goal
 
 pub returns-in-At : goal.returns-in-At

@@ -1,6 +1,5 @@
-use Rattle.text.proofs.Appended.{appended_then, appended_length}
+use Rattle.text.proofs.Appended.{appended_then}
 use Rattle.write_report.specs.Lines.{block_line}
-use borrow.Author.Rules.{rules}
 use Rattle.write_report.proofs.put_block.Goals as goal
 
 pub returns : goal.returns

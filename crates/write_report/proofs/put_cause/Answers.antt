@@ -1,5 +1,4 @@
 use Rattle.text.proofs.Appended.{appended_length}
-use borrow.Author.Rules.{rules}
 use Rattle.write_report.proofs.put_cause.Goals as goal
 
 pub returns-in-UnknownWord : goal.returns-in-UnknownWord

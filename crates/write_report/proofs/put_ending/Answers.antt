@@ -1,6 +1,5 @@
 use Rattle.laws.specs.Choice.{choose_yes, choose_no}
 use borrow.Author.Tests.{eq-eqb, ne_eqb}
-use borrow.Author.Rules.{rules}
 use Rattle.write_report.proofs.put_ending.Goals as goal
 
 pub returns-then-n-eq1 : goal.returns-then-n-eq1

@@ -1,5 +1,4 @@
-use Rattle.text.proofs.Appended.{appended_then, appended_length}
-use borrow.Author.Rules.{rules}
+use Rattle.text.proofs.Appended.{appended_then}
 use Rattle.write_report.proofs.put_field.Goals as goal
 
 pub returns : goal.returns

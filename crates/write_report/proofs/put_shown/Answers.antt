@@ -2,7 +2,6 @@ use borrow.Author.Tests.{lt-ltb, le-ltb}
 use Rattle.laws.specs.Choice.{choose_yes, choose_no}
 use Rattle.text.proofs.Appended.{appended_then, appended_length}
 use Rattle.write_report.specs.Lines.{shown}
-use borrow.Author.Rules.{rules}
 use Rattle.write_report.proofs.put_shown.Goals as goal
 
 pub returns-then-field-gt40 : goal.returns-then-field-gt40

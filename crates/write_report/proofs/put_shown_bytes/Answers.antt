@@ -1,13 +1,10 @@
 use mathlib.Core.Path.{◌≡◌, ap, ◌∙◌}
-use Prim.Native.Nat.{◌-◌, ◌≤◌, min}
-use lib.ListN.{length, get_or}
-use Rattle.notation.specs.Lists.{tab}
-use Rattle.text.specs.Text.{Appended}
+use Prim.Native.Nat.{min}
+use lib.ListN.{length}
 use Rattle.text.proofs.Appended.{appended_length}
 use Rattle.write_report.specs.Lines.{shown_byte}
 use Rattle.write_report.proofs.Shown.{shown_none, shown_next}
 use native.Mathlib.Omega.{arith}
-use borrow.Author.Rules.{rules}
 use Rattle.write_report.proofs.put_shown_bytes.Goals as goal
 
 pub loop-i-init : goal.loop-i-init

@@ -1,7 +1,6 @@
 use Rattle.laws.specs.Choice.{choose_yes, choose_no}
 use borrow.Author.Tests.{eq-eqb, ne_eqb}
 use Rattle.write_report.specs.Lines.{verb}
-use borrow.Author.Rules.{rules}
 use Rattle.write_report.proofs.put_verb.Goals as goal
 
 pub returns-then-n-eq1 : goal.returns-then-n-eq1

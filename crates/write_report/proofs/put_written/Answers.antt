@@ -1,6 +1,5 @@
 use borrow.Author.Tests.{eq-eqb, ne_eqb}
 use Rattle.laws.specs.Choice.{choose_yes, choose_no}
-use borrow.Author.Rules.{rules}
 use Rattle.write_report.proofs.put_written.Goals as goal
 
 pub returns-then-written-ne0 : goal.returns-then-written-ne0

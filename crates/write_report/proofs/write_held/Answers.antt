@@ -3,7 +3,6 @@ use lib.Seq.{length-take-le}
 use Rattle.write_report.proofs.Held.{held_take}
 use Rattle.write_report.proofs.Replies.{fault_inside, leaves_fault, leaves_held}
 use native.Mathlib.Omega.{arith}
-use borrow.Author.Rules.{rules}
 use Rattle.write_report.proofs.write_held.Goals as goal
 
 pub overflow_add-n : goal.overflow_add-n

@@ -1,5 +1,4 @@
 use Rattle.loader.proofs.LeafCursor.{passed_none}
-use borrow.Author.Rules.{rules}
 use Rattle.loader.proofs.leaf_cursor.first_leaf.Goals as goal
 
 pub leaf_from-requires : goal.leaf_from-requires

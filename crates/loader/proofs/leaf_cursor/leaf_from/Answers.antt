@@ -1,9 +1,5 @@
-use Prim.Native.Nat.{◌-◌}
-use Rattle.xip_sections.specs.Marks.{marked}
-use Rattle.loader.specs.LeafCursor.{Passed}
 use Rattle.loader.proofs.LeafCursor.{leaf_found, leaf_own, passed_room, passed_more}
 use native.Mathlib.Omega.{arith}
-use borrow.Author.Rules.{rules}
 use Rattle.loader.proofs.leaf_cursor.leaf_from.Goals as goal
 
 pub returns-then-m-section : goal.returns-then-m-section

@@ -1,6 +1,5 @@
 use Rattle.loader.proofs.LeafCursor.{passed_later}
 use native.Mathlib.Omega.{arith}
-use borrow.Author.Rules.{rules}
 use Rattle.loader.proofs.leaf_cursor.next_leaf.Goals as goal
 
 pub leaf_from-requires : goal.leaf_from-requires

@@ -1,6 +1,5 @@
 use mathlib.Core.Path.{sym, ◌∙◌}
 use Rattle.laws.specs.Choice.{choose_yes, choose_no}
-use borrow.Author.Rules.{rules}
 use Rattle.loader.proofs.leaf_entries.first_page.Goals as goal
 
 pub returns-then-in_place : goal.returns-then-in_place

@@ -4,7 +4,6 @@ use Rattle.order_places.proofs.Capped.{uncapped}
 use Rattle.page_allocator.proofs.PageAt.{page_inside}
 use Rattle.loader.proofs.LeafEntries.{walkable, tracker_room, tracker_some, tracker_end, kernel_is}
 use native.Mathlib.Omega.{arith}
-use borrow.Author.Rules.{rules}
 use Rattle.loader.proofs.leaf_entries.kernel_entries.Goals as goal
 
 pub overflow_cast-count : goal.overflow_cast-count

@@ -1,6 +1,5 @@
 use Rattle.loader.proofs.LeafCursor.{kernel_slot, user_slot}
 use Rattle.loader.proofs.LeafEntries.{leaf_kernel, leaf_user}
-use borrow.Author.Rules.{rules}
 use Rattle.loader.proofs.leaf_entries.leaf_entries.Goals as goal
 
 pub kernel_entries-requires : goal.kernel_entries-requires

@@ -1,10 +1,6 @@
-use mathlib.Core.Path.{◌≡◌, refl}
-use Prim.Native.Nat.{◌-◌, ◌/◌, ◌≤◌}
-use lib.ListN.{length}
-use Rattle.xip_sections.specs.Marks.{marked}
-use Rattle.loader.proofs.LeafEntries.{Mapped, mapped_from, mapped_more, mapped_stop, mapped_all}
+use mathlib.Core.Path.{refl}
+use Rattle.loader.proofs.LeafEntries.{mapped_from, mapped_more, mapped_stop, mapped_all}
 use native.Mathlib.Omega.{arith}
-use borrow.Author.Rules.{rules}
 use Rattle.loader.proofs.leaf_entries.map_sections.Goals as goal
 
 pub loop-j-init : goal.loop-j-init

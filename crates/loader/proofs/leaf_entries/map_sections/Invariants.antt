@@ -1,10 +1,8 @@
-use mathlib.Core.Path.{◌≡◌, refl}
+use mathlib.Core.Path.{◌≡◌}
 use Prim.Native.Nat.{◌-◌, ◌/◌, ◌≤◌}
 use lib.ListN.{length}
 use Rattle.xip_sections.specs.Marks.{marked}
-use Rattle.loader.proofs.LeafEntries.{Mapped, mapped_from, mapped_more, mapped_stop, mapped_all}
-use native.Mathlib.Omega.{arith}
-use borrow.Author.Rules.{rules}
+use Rattle.loader.proofs.LeafEntries.{Mapped}
 use Rattle.loader.proofs.leaf_entries.map_sections.Given as goal
 
 abbrev pub invariant-loop-j : goal.invariant-loop-j

@@ -1,5 +1,4 @@
 use Rattle.loader.proofs.LeafEntries.{user_is}
-use borrow.Author.Rules.{rules}
 use Rattle.loader.proofs.leaf_entries.user_entries.Goals as goal
 
 pub returns : goal.returns

@@ -1,14 +1,11 @@
-use mathlib.Core.Path.{◌≡◌, refl}
+use mathlib.Core.Path.{◌≡◌}
 use Prim.Native.Nat.{◌+◌, ◌-◌, ◌*◌, ◌≤◌}
 use Rattle.rules.specs.Order.{tracker_pages}
 use Rattle.rules.specs.Load.{satp_word}
 use Rattle.xip_sections.specs.Marks.{marked}
 use Rattle.order_laws.specs.Places.{root_place}
-use Rattle.stores.proofs.Written.{Written, written_none}
-use Rattle.page_allocator.proofs.PageAt.{page_inside}
-use Rattle.loader.proofs.ProcessWords.{list_byte, root_next, tables_fit, root_fits, satp_is, process_turn, list_end}
-use native.Mathlib.Omega.{arith}
-use borrow.Author.Rules.{rules}
+use Rattle.stores.proofs.Written.{Written}
+use Rattle.loader.proofs.ProcessWords.{list_byte}
 use Rattle.loader.proofs.process_list.list_processes.Given as goal
 
 abbrev pub invariant-loop-i : goal.invariant-loop-i

@@ -1,6 +1,5 @@
 use Rattle.loader.proofs.ProcessWords.{list_fits, first_root, page_long, list_page}
 use native.Mathlib.Omega.{arith}
-use borrow.Author.Rules.{rules}
 use Rattle.loader.proofs.process_list.load_process_list.Goals as goal
 
 pub slice_bounds-page-end : goal.slice_bounds-page-end

@@ -1,5 +1,4 @@
 use Rattle.loader.proofs.ProcessWords.{three_words, satp_small}
-use borrow.Author.Rules.{rules}
 use Rattle.loader.proofs.process_list.put_process.Goals as goal
 
 pub returns : goal.returns

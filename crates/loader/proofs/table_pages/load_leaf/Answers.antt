@@ -1,5 +1,4 @@
 use Rattle.loader.proofs.TablePages.{blank, leaf_page}
-use borrow.Author.Rules.{rules}
 use Rattle.loader.proofs.table_pages.load_leaf.Goals as goal
 
 pub leaf_entries-requires : goal.leaf_entries-requires

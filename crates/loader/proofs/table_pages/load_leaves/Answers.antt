@@ -1,15 +1,7 @@
 use mathlib.Core.Path.{◌≡◌}
-use mathlib.Core.Bool.{true}
-use Prim.Native.Nat.{◌-◌, ◌≤◌, ◌<◌}
-use Rattle.notation.specs.Lists.{gather}
-use Rattle.rules.specs.Order.{has_leaf}
-use Rattle.writing.specs.Loaded.{WroteAny, any_gather_none, any_gather_next}
-use Rattle.xip_sections.specs.Marks.{marked}
-use Rattle.loader.specs.TablePages.{leaf_uses}
-use Rattle.loader.specs.LeafCursor.{Passed}
+use Rattle.writing.specs.Loaded.{any_gather_none, any_gather_next}
 use Rattle.loader.proofs.TablePages.{next_leaves, one_leaf}
 use native.Mathlib.Omega.{arith}
-use borrow.Author.Rules.{rules}
 use Rattle.loader.proofs.table_pages.load_leaves.Goals as goal
 
 pub loop-leaf-init : goal.loop-leaf-init

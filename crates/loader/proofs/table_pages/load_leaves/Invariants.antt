@@ -3,13 +3,10 @@ use mathlib.Core.Bool.{true}
 use Prim.Native.Nat.{◌-◌, ◌≤◌, ◌<◌}
 use Rattle.notation.specs.Lists.{gather}
 use Rattle.rules.specs.Order.{has_leaf}
-use Rattle.writing.specs.Loaded.{WroteAny, any_gather_none, any_gather_next}
+use Rattle.writing.specs.Loaded.{WroteAny}
 use Rattle.xip_sections.specs.Marks.{marked}
 use Rattle.loader.specs.TablePages.{leaf_uses}
 use Rattle.loader.specs.LeafCursor.{Passed}
-use Rattle.loader.proofs.TablePages.{next_leaves, one_leaf}
-use native.Mathlib.Omega.{arith}
-use borrow.Author.Rules.{rules}
 use Rattle.loader.proofs.table_pages.load_leaves.Given as goal
 
 abbrev pub invariant-loop-leaf : goal.invariant-loop-leaf

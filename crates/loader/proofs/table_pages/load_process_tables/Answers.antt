@@ -1,5 +1,4 @@
 use Rattle.loader.proofs.TablePages.{leaves_at, process_tables}
-use borrow.Author.Rules.{rules}
 use Rattle.loader.proofs.table_pages.load_process_tables.Goals as goal
 
 pub load_root-requires : goal.load_root-requires

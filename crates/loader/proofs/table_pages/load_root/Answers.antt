@@ -1,5 +1,4 @@
 use Rattle.loader.proofs.TablePages.{blank, root_page}
-use borrow.Author.Rules.{rules}
 use Rattle.loader.proofs.table_pages.load_root.Goals as goal
 
 pub point_to_leaves-requires : goal.point_to_leaves-requires

@@ -1,11 +1,7 @@
-use mathlib.Core.Path.{◌≡◌}
-use Prim.Native.Nat.{◌+◌, ◌-◌, ◌≤◌}
-use Rattle.notation.specs.Lists.{gather}
+use Prim.Native.Nat.{◌+◌}
 use Rattle.rules.specs.Order.{table_uses}
-use Rattle.order_laws.specs.Places.{section_place}
 use Rattle.order_places.proofs.Capped.{uncapped}
-use Rattle.writing.specs.Loaded.{WroteAny, any_gather_none, any_gather_next}
-use Rattle.xip_sections.specs.Marks.{marked}
+use Rattle.writing.specs.Loaded.{any_gather_none, any_gather_next}
 use Rattle.loader.proofs.LeafEntries.{walkable}
 use Rattle.loader.proofs.TablePages.{kernel_at, next_place, tables_all}
 use native.Mathlib.Omega.{arith}

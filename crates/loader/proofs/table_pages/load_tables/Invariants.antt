@@ -3,13 +3,8 @@ use Prim.Native.Nat.{◌+◌, ◌-◌, ◌≤◌}
 use Rattle.notation.specs.Lists.{gather}
 use Rattle.rules.specs.Order.{table_uses}
 use Rattle.order_laws.specs.Places.{section_place}
-use Rattle.order_places.proofs.Capped.{uncapped}
-use Rattle.writing.specs.Loaded.{WroteAny, any_gather_none, any_gather_next}
+use Rattle.writing.specs.Loaded.{WroteAny}
 use Rattle.xip_sections.specs.Marks.{marked}
-use Rattle.loader.proofs.LeafEntries.{walkable}
-use Rattle.loader.proofs.TablePages.{kernel_at, next_place, tables_all}
-use native.Mathlib.Omega.{arith}
-use borrow.Author.Rules.{rules}
 use Rattle.loader.proofs.table_pages.load_tables.Given as goal
 
 abbrev pub invariant-loop-i : goal.invariant-loop-i

@@ -1,6 +1,5 @@
 use mathlib.Core.Path.{sym}
 use Rattle.loader.proofs.LeafEntries.{first_user_place, next_user_place}
-use borrow.Author.Rules.{rules}
 use Rattle.loader.proofs.table_pages.next_section_place.Goals as goal
 
 pub returns-then-q-eq1 : goal.returns-then-q-eq1

@@ -1,9 +1,5 @@
-use Prim.Native.Nat.{◌-◌}
-use Rattle.xip_sections.specs.Marks.{marked}
-use Rattle.loader.specs.LeafCursor.{Passed}
-use Rattle.loader.proofs.TablePages.{Pointing, pointing_start, pointing_next, pointing_is}
+use Rattle.loader.proofs.TablePages.{pointing_start, pointing_next, pointing_is}
 use native.Mathlib.Omega.{arith}
-use borrow.Author.Rules.{rules}
 use Rattle.loader.proofs.table_pages.point_to_leaves.Goals as goal
 
 pub loop-leaf-init : goal.loop-leaf-init

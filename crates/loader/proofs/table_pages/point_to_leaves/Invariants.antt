@@ -1,9 +1,7 @@
 use Prim.Native.Nat.{◌-◌}
 use Rattle.xip_sections.specs.Marks.{marked}
 use Rattle.loader.specs.LeafCursor.{Passed}
-use Rattle.loader.proofs.TablePages.{Pointing, pointing_start, pointing_next, pointing_is}
-use native.Mathlib.Omega.{arith}
-use borrow.Author.Rules.{rules}
+use Rattle.loader.proofs.TablePages.{Pointing}
 use Rattle.loader.proofs.table_pages.point_to_leaves.Given as goal
 
 abbrev pub invariant-loop-leaf : goal.invariant-loop-leaf

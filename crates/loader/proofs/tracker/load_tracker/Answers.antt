@@ -1,9 +1,4 @@
-use Prim.Native.Nat.{ℕ, ◌-◌, ◌≤◌}
-use Rattle.notation.specs.Lists.{tab}
-use Rattle.rules.specs.Space.{tracker_page}
-use Rattle.rules.specs.Order.{holds}
-use Rattle.xip_sections.specs.Marks.{marked}
-use Rattle.writing.specs.Loaded.{WroteAny, any_tab_none}
+use Rattle.writing.specs.Loaded.{any_tab_none}
 use Rattle.loader.proofs.TrackerBytes.{tracker_fits, page_turn, tracker_end}
 use native.Mathlib.Omega.{arith}
 use borrow.Author.Rules.{rules}

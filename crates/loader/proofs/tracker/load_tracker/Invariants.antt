@@ -3,10 +3,7 @@ use Rattle.notation.specs.Lists.{tab}
 use Rattle.rules.specs.Space.{tracker_page}
 use Rattle.rules.specs.Order.{holds}
 use Rattle.xip_sections.specs.Marks.{marked}
-use Rattle.writing.specs.Loaded.{WroteAny, any_tab_none}
-use Rattle.loader.proofs.TrackerBytes.{tracker_fits, page_turn, tracker_end}
-use native.Mathlib.Omega.{arith}
-use borrow.Author.Rules.{rules}
+use Rattle.writing.specs.Loaded.{WroteAny}
 use Rattle.loader.proofs.tracker.load_tracker.Given as goal
 
 abbrev pub invariant-loop-i : goal.invariant-loop-i

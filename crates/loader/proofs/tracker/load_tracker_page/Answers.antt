@@ -1,5 +1,4 @@
 use Rattle.writing.specs.Pages.{put_part}
-use borrow.Author.Rules.{rules}
 use Rattle.loader.proofs.tracker.load_tracker_page.Goals as goal
 
 pub returns : goal.returns

@@ -1,9 +1,8 @@
-use mathlib.Core.Path.{◌≡◌, refl}
-use Prim.Native.Nat.{◌-◌, ◌≤◌}
+use mathlib.Core.Path.{refl}
 use Rattle.xip_sections.specs.Marks.{marked}
-use Rattle.order_laws.specs.Places.{user_pages, user_pages_none}
-use Rattle.stores.proofs.Written.{Written, written_none}
-use Rattle.loader.proofs.TrackerBytes.{tracker_byte, users_fit, user_fits, track_turn, track_end}
+use Rattle.order_laws.specs.Places.{user_pages_none}
+use Rattle.stores.proofs.Written.{written_none}
+use Rattle.loader.proofs.TrackerBytes.{users_fit, user_fits, track_turn, track_end}
 use native.Mathlib.Omega.{arith}
 use borrow.Author.Rules.{rules}
 use Rattle.loader.proofs.tracker.track_owners.Goals as goal

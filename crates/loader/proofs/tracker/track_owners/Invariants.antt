@@ -1,11 +1,9 @@
-use mathlib.Core.Path.{◌≡◌, refl}
+use mathlib.Core.Path.{◌≡◌}
 use Prim.Native.Nat.{◌-◌, ◌≤◌}
 use Rattle.xip_sections.specs.Marks.{marked}
-use Rattle.order_laws.specs.Places.{user_pages, user_pages_none}
-use Rattle.stores.proofs.Written.{Written, written_none}
-use Rattle.loader.proofs.TrackerBytes.{tracker_byte, users_fit, user_fits, track_turn, track_end}
-use native.Mathlib.Omega.{arith}
-use borrow.Author.Rules.{rules}
+use Rattle.order_laws.specs.Places.{user_pages}
+use Rattle.stores.proofs.Written.{Written}
+use Rattle.loader.proofs.TrackerBytes.{tracker_byte}
 use Rattle.loader.proofs.tracker.track_owners.Given as goal
 
 abbrev pub invariant-loop-i : goal.invariant-loop-i

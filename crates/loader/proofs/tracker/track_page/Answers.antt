@@ -1,5 +1,4 @@
 use Rattle.loader.proofs.TrackerBytes.{first_page, later_page}
-use borrow.Author.Rules.{rules}
 use Rattle.loader.proofs.tracker.track_page.Goals as goal
 
 pub returns-then-i-eq0 : goal.returns-then-i-eq0
