@@ -192,7 +192,7 @@ module _ (x : Image) (r : Memory) (boot : boots x r ≡ true) where
   where_reached block_copy t P e (inl f) s = absurd f
 
   -- EVERY PROCESS SEES WHAT THE RULES GIVE IT: absent, reserved, or a page with those rights and that byte of RAM or flash; and the
-  -- answered page lies in RAM, or in flash, read_only
+  -- answered page lies in RAM, or in flash, read-only
   pub sees_what_the_rules_give : (q a : ℕ) → 1 ≤ q → q ≤ process_count b → a < 0x1_0000_0000
       → (process_sees x r q a ≡ sees_on x ram q a)
       × ((t : Rights) (P : PhysPage) → walk (after x r) (root_of x r q) a ≡ Page t P → InRamOrFlash x (after x r) t P)
