@@ -8,11 +8,11 @@
  * came. The reader walks page tables by the Sv32 rules. The writer makes a
  * boot block from lists of records.
  *
- * Link with librigpollen.a for your machine: x86-64, or bare RV32 (ilp32,
- * rv32imac or rv32ima). The linker must supply memcpy, memmove and memset as
- * C has them, and nothing else. The entries keep no state between calls and
- * take nothing from a heap. They answer for every input: there is none that
- * they must not be given, if the areas are as said here.
+ * Link with librigpollen.a for your machine: x86-64 (level v2 on), or bare
+ * RV32 (ilp32, rv32imac or rv32ima). The linker must supply memcpy, memmove
+ * and memset as C has them, and nothing else. The entries keep no state
+ * between calls and take nothing from a heap. They answer for every input:
+ * there is none that they must not be given, if the areas are as said here.
  *
  * Areas. Each area is a pointer and a length. The length of `block`, `flash`,
  * `ram`, `buffer` and `bytes` counts bytes, that of `answer`, `words`, `page`,
