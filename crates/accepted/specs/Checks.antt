@@ -7,8 +7,7 @@ use Rattle.std.proofs.lemmas.Bool.{eqb-false}
 use Rattle.notation.specs.Choice.{choose}
 use Rattle.notation.specs.Lists.{lookup}
 use Rattle.types.specs.declared.Area.{Area}
-use Rattle.types.specs.declared.RecordCheck.{RecordCheck}
-use Rattle.types.specs.declared.Verdict.{Verdict}
+use Rattle.rules.specs.Answers.{RecordCheck, Verdict}
 use Rattle.rules.specs.Lent.{Image}
 use Rattle.rules.specs.Refusals.{Check, whole, records, refused, accepted, first_record, first_refusal, process_record_check, process_check, section_refusal, section_check, entry_point_check, region_check, lent_checks, header_checks, process_checks, block_checks, content_checks, checks, verdict}
 use Rattle.laws.specs.Choice.{by_choose}

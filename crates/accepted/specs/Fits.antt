@@ -5,7 +5,7 @@ use native.Mathlib.Omega.{arith}
 use borrow.Author.Tests.{eqb-true, ltb-false, not-false}
 use Rattle.types.specs.declared.Area.{Area}
 use Rattle.types.specs.declared.PageRange.{PageRange}
-use Rattle.types.specs.declared.Verdict.{Verdict}
+use Rattle.rules.specs.Answers.{Verdict}
 use Rattle.rules.specs.Lent.{Image, pages_in}
 use Rattle.rules.specs.Block.{process_count}
 use Rattle.rules.specs.InPlace.{xip_of}

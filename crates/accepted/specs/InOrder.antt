@@ -7,8 +7,7 @@ use Rattle.std.proofs.lemmas.Bool.{eqb-false}
 use Rattle.notation.specs.Choice.{choose}
 use Rattle.laws.specs.Choice.{by_test, choose_yes, choose_no}
 use Rattle.laws.specs.Lists.{Every, ◌and◌}
-use Rattle.types.specs.declared.RecordCheck.{RecordCheck}
-use Rattle.types.specs.declared.Verdict.{Verdict}
+use Rattle.rules.specs.Answers.{RecordCheck, Verdict}
 use Rattle.rules.specs.Refusals.{Check, whole, records, refused, accepted, first_record, first_refusal}
 
 -- A SCAN OF RECORDS k TO n - 1, where f k is the check of record k

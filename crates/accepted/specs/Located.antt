@@ -3,7 +3,7 @@ use Rattle.std.specs.Prelude.{◌≡◌, refl, Bool, List, ℕ, ◌+◌, ◌*◌
 use Rattle.std.proofs.Common.{sym, inl, inr, arith}
 use Rattle.notation.specs.Choice.{choose}
 use Rattle.types.specs.declared.Area.{Area}
-use Rattle.types.specs.declared.Verdict.{Verdict}
+use Rattle.rules.specs.Answers.{Verdict}
 use Rattle.rules.specs.Lent.{Image}
 use Rattle.rules.specs.Block.{process_count, section_count, region_count, sections_at, regions_at, process_at, section_at, region_at}
 use Rattle.rules.specs.Refusals.{Check, whole, records, process_record_check, process_check, section_refusal, section_check, entry_point_check, region_check, refused, accepted, first_refusal}

@@ -4,7 +4,7 @@ use Rattle.std.proofs.Math.Path.{sym}
 use Rattle.std.proofs.Common.{arith, eqb-true}
 use Rattle.notation.specs.Choice.{choose}
 use Rattle.types.specs.declared.Area.{Area}
-use Rattle.types.specs.declared.Answer.{Answer}
+use Rattle.rules.specs.Answers.{Answer}
 use Rattle.rules.specs.Lent.{Image, Memory, memory_area, pages_in}
 use Rattle.rules.specs.Block.{process_count, section_count, region_count}
 use Rattle.rules.specs.Refusals.{ram_unfit, flash_unfit, block_too_short, format_unknown, counts_out_of_bounds, layout_not_tight, process_unfit, section_unfit, section_misplaced, section_past_flash}

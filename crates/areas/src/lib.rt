@@ -10,8 +10,6 @@ use types::Area;
 pub fn share_address(a: Area, c: Area) -> bool
     ensures { result ≡ share_address a c }
 {
-    numbers::both(
-        numbers::minus(c.start as usize, a.start as usize) < a.length,
-        numbers::minus(a.start as usize, c.start as usize) < c.length,
-    )
+    let (a_start, c_start) = (a.start as usize, c.start as usize);
+    c_start.saturating_sub(a_start) < a.length && a_start.saturating_sub(c_start) < c.length
 }

@@ -1,5 +1,5 @@
 // The boot block's counts, read from any bytes (what lies past their end counts as 0), and where they put the records.
-#![tactic(auto)]
+#![tactic(auto, unfolding(rules::specs::Block::block_rules))]
 
 ghost use Rattle.std.specs.Prelude.{◌≡◌, ◌+◌, ◌≤◌};
 ghost use Rattle.rules.specs.Block.{process_count, section_count, region_count, sections_at, regions_at, tight_length, process_at, section_at, region_at};

@@ -1,8 +1,6 @@
 -- Reading a process record.
-use mathlib.Core.Path.{◌≡◌}
-use mathlib.Core.List.{List}
-use Prim.Native.Nat.{ℕ, ◌+◌, ◌-◌}
-use native.Mathlib.Omega.{arith}
+use Rattle.std.specs.Prelude.{◌≡◌, List, ℕ, ◌+◌, ◌-◌}
+use Rattle.std.proofs.Common.{arith}
 use Rattle.rules.specs.Block.{entry_point_of, first_section_of, sections_of, kind_word_of, process_at}
 use Rattle.types.specs.declared.Process.{Process}
 use Rattle.block_records.specs.Read.{IsProcess}

@@ -1,11 +1,6 @@
 -- Reading a section record.
-use mathlib.Core.Path.{◌≡◌, sym, ◌∙◌}
-use mathlib.Core.Bool.{Bool}
-use mathlib.Core.List.{List}
-use Prim.Native.Nat.{ℕ, ◌+◌, ◌-◌, ◌*◌, ◌/◌, ◌<◌}
-use native.Mathlib.Nat.{add-zero}
-use native.Mathlib.Omega.{arith}
-use lib.ListN.{length}
+use Rattle.std.specs.Prelude.{◌≡◌, Bool, List, ℕ, ◌+◌, ◌-◌, ◌*◌, ◌/◌, ◌<◌, length, get_or}
+use Rattle.std.proofs.Common.{◌∙◌, sym, arith, add-zero, Fits, w8}
 use Rattle.notation.specs.Words.{word, bit}
 use Rattle.laws.specs.Words.{word_past}
 use Rattle.rules.specs.Block.{sections_at, section_at, address, size, flash_offset_of, flags, is_no_copy, writable, executable, section_end, first_page_of, last_page_of, page_count}
@@ -20,11 +15,15 @@ section_past b n h k = word_past b (length b + k) (omega arith) ∙ sym (word_pa
 pub first_word : (b : List ℕ) (x y v : ℕ) → ((k : ℕ) → word b (x + k) ≡ word b (y + k)) → v ≡ word b x → v ≡ word b y
 first_word b x y v h e = e ∙ rw (add-zero, add-zero) at (h 0)
 
+word_small : (b : List ℕ) (x : ℕ) → ((i : ℕ) → Fits w8 (get_or b i 0)) → word b x < 0x1_0000_0000
+unfolding word
+word_small b x h = omega (arith, h x, h (x + 1), h (x + 2), h (x + 3))
+
 -- a section from its four words
 pub section_is : {b : List ℕ} {n a s o f l : ℕ} {z w x : Bool}
     → a ≡ address b n → s ≡ size b n → o ≡ flash_offset_of b n → f ≡ flags b n
     → z ≡ bit f 1 → w ≡ bit f 2 → x ≡ bit f 4
-    → l ≡ a + s - 1 → a < 0x1_0000_0000 → s < 0x1_0000_0000
+    → l ≡ a + s - 1 → ((i : ℕ) → Fits w8 (get_or b i 0))
     → IsSection b n (record {
       address = a;
       size = s;
@@ -37,8 +36,8 @@ pub section_is : {b : List ℕ} {n a s o f l : ℕ} {z w x : Bool}
       last_page = record { 0 = l / 4096 };
       pages = l / 4096 + 1 - a / 4096;
     })
-unfolding is_no_copy writable executable section_end first_page_of last_page_of page_count
-section_is ea es eo ef ez ew ex el ha hs = record {
+unfolding address size is_no_copy writable executable section_end first_page_of last_page_of page_count
+section_is {b} {n} ea es eo ef ez ew ex el h = record {
   address_is = ea;
   size_is = es;
   flash_offset = eo;
@@ -49,5 +48,5 @@ section_is ea es eo ef ez ew ex el ha hs = record {
   first_page = rw ea;
   last_page = rw (el, ea, es);
   page_count_is = rw (el, ea, es);
-  pages_few = omega arith;
+  pages_few = omega (arith, ea, es, word_small b (section_at b n) h, word_small b (section_at b n + 4) h);
 }

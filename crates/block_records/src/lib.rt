@@ -36,12 +36,13 @@ pub struct Region {
 pub fn read_process_record(block: &[u8], i: u32) -> Process
     ensures { IsProcess block.now (i + 1) result }
 {
-    let words = slices::four_words(block, block_header::process_at(i));
+    let at = block_header::process_at(i);
+    let [entry_point, first_section, sections, kind_word] = slices::four_words(block, at);
     Process {
-        entry_point: words.0,
-        first_section: words.1,
-        sections: words.2,
-        kind_word: words.3,
+        entry_point,
+        first_section,
+        sections,
+        kind_word,
     }
 }
 
@@ -49,10 +50,11 @@ pub fn read_process_record(block: &[u8], i: u32) -> Process
 pub fn read_process(block: &[u8], q: u32) -> Process
     ensures { IsProcess block.now q result }
 {
-    read_process_record(block, numbers::minus(q as usize, 1) as u32)
+    read_process_record(block, q.saturating_sub(1))
 }
 
 // The kind: bits 0 to 7 of a kind word.
+#[tactic(auto, unfolding(rules::specs::Block::kind_of))]
 pub fn kind_of(kind_word: u32) -> u32
     ensures { result ≡ kind_of kind_word }
 {
@@ -60,6 +62,7 @@ pub fn kind_of(kind_word: u32) -> u32
 }
 
 // Its bits 8 to 15, which are for the stack pages.
+#[tactic(auto, unfolding(rules::specs::Block::stack_bits))]
 pub fn stack_bits(kind_word: u32) -> u32
     ensures { result ≡ stack_bits kind_word }
 {
@@ -67,6 +70,7 @@ pub fn stack_bits(kind_word: u32) -> u32
 }
 
 // The pages of process q's stack; the kernel has none.
+#[tactic(auto, unfolding(rules::specs::Block::stack_pages, notation::specs::Choice::choose))]
 pub fn stack_pages(block: &[u8], q: u32) -> u32
     ensures { result ≡ stack_pages block.now q }
 {
@@ -79,6 +83,7 @@ pub fn stack_pages(block: &[u8], q: u32) -> u32
 }
 
 // The stack pointer that process q starts with; the kernel has 0.
+#[tactic(auto, unfolding(rules::specs::Contents::stack_pointer, notation::specs::Choice::choose))]
 pub fn stack_pointer(q: u32) -> u32
     ensures { result ≡ stack_pointer q }
 {
@@ -99,28 +104,26 @@ fn section_offset(block: &[u8], n: usize) -> usize
 pub fn read_section(block: &[u8], n: usize) -> Section
     ensures { IsSection block.now n result }
 {
-    let words = slices::four_words(block, section_offset(block, n));
-    let address = words.0;
-    let size = words.1;
-    let flags = words.3;
+    let [address, size, flash_offset, flags] = slices::four_words(block, section_offset(block, n));
+    let end = u64::from(address) + u64::from(size);
     let first = address / 4096;
-    let last = (numbers::minus(address as usize + size as usize, 1) / 4096) as u32;
-    let pages = last + 1 - first;
+    let last = (end.saturating_sub(1) / 4096) as u32;
     Section {
         address,
         size,
-        flash_offset: words.2,
+        flash_offset,
         flags,
         no_copy: numbers::bit(flags, 1),
         writable: numbers::bit(flags, 2),
         executable: numbers::bit(flags, 4),
         first_page: VirtPage(first),
         last_page: VirtPage(last),
-        pages,
+        pages: last + 1 - first,
     }
 }
 
 // Region record i.
+#[tactic(auto, unfolding(rules::specs::Block::region_start, rules::specs::Block::region_pages, rules::specs::Block::region_area))]
 pub fn read_region(block: &[u8], i: u32) -> Region
     ensures { IsRegion block.now i result }
 {
@@ -130,6 +133,6 @@ pub fn read_region(block: &[u8], i: u32) -> Region
     Region {
         start,
         pages,
-        end: start as u64 + 4096 * (pages as u64),
+        end: u64::from(start) + 4096 * u64::from(pages),
     }
 }

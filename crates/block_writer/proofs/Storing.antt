@@ -1,11 +1,7 @@
 -- The block stored in the buffer part by part.
-use mathlib.Core.Path.{◌≡◌, refl, sym, ◌∙◌}
-use mathlib.Core.List.{List, [], ◌++◌, append_assoc}
+use Rattle.std.proofs.Common.{◌≡◌, refl, sym, ◌∙◌, List, [], ◌++◌, append_assoc, arith, length, get_or, take, drop, length-append, take_at, drop-drop, lt-ltb}
 use Prim.Native.Nat.{ℕ, ◌+◌, ◌-◌, ◌*◌, ◌/◌, ◌%◌, ◌≤◌}
-use native.Mathlib.Omega.{arith}
-use lib.ListN.{length, get_or, take, drop, length-append}
-use lib.Seq.{take_at, drop-append-add, drop-drop}
-use borrow.Author.Tests.{lt-ltb}
+use lib.Seq.{drop-append-add}
 use borrow.Rule.Slice.PartMut.{put_mid, mid_of, mid_len, Post-is}
 use Rattle.notation.specs.Words.{byte_of, bytes_of}
 use Rattle.laws.specs.Choice.{choose_yes}

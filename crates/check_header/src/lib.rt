@@ -1,6 +1,6 @@
 // Refusals 1, 13 and 2 to 5: RAM's place and size, flash's place, a short block, the format, the counts, and the layout. Each function
 // answers for any input.
-#![tactic(auto)]
+#![tactic(auto, unfolding(rules::specs::Refusals::refusal_rules, rules::specs::Block::block_rules, notation::specs::Choice::any))]
 
 ghost use Rattle.std.specs.Prelude.{◌≡◌, ltb};
 ghost use Rattle.rules.specs.Lent.{end_of};
@@ -19,29 +19,14 @@ fn ends_high(area: Area) -> bool
 pub fn ram_unfit(ram: Area) -> bool
     ensures { result ≡ ram_unfit ram }
 {
-    if ram.length % 4096 != 0 {
-        return true;
-    }
-    if 4096 < ram.length / 4096 {
-        return true;
-    }
-    if ram.start % 4096 != 0 {
-        return true;
-    }
-    ends_high(ram)
+    ram.length % 4096 != 0 || 4096 < ram.length / 4096 || ram.start % 4096 != 0 || ends_high(ram)
 }
 
 // Refusal 13.
 pub fn flash_unfit(flash: Area, ram: Area) -> bool
     ensures { result ≡ flash_unfit flash ram }
 {
-    if flash.start % 4096 != 0 {
-        return true;
-    }
-    if ends_high(flash) {
-        return true;
-    }
-    areas::share_address(flash, ram)
+    flash.start % 4096 != 0 || ends_high(flash) || areas::share_address(flash, ram)
 }
 
 // Refusal 2.
@@ -62,23 +47,14 @@ pub fn format_unknown(block: &[u8]) -> bool
 fn is_outside(lo: usize, hi: usize, n: usize) -> bool
     ensures { result ≡ outside lo hi n }
 {
-    if n < lo {
-        return true;
-    }
-    hi < n
+    n < lo || hi < n
 }
 
 // p, s or r is outside its bounds.
 pub fn counts_outside(p: usize, s: usize, r: usize) -> bool
     ensures { result ≡ counts_outside p s r }
 {
-    if is_outside(1, 16, p) {
-        return true;
-    }
-    if is_outside(1, 64, s) {
-        return true;
-    }
-    is_outside(0, 32, r)
+    is_outside(1, 16, p) || is_outside(1, 64, s) || is_outside(0, 32, r)
 }
 
 // Refusal 4.
@@ -96,24 +72,14 @@ pub fn counts_out_of_bounds(block: &[u8]) -> bool
 pub fn layout_not_tight(block: &[u8]) -> bool
     ensures { result ≡ layout_not_tight block.now }
 {
-    let sections_at = block_header::sections_at(block);
-    let regions_at = block_header::regions_at(block);
-    let length = block_header::tight_length(block);
     let process_offset = slices::word(block, 12);
     let section_offset = slices::word(block, 20) as usize;
     let region_offset = slices::word(block, 28) as usize;
     let length_field = slices::word(block, 4) as usize;
-    if process_offset != 32 {
-        return true;
-    }
-    if section_offset != sections_at {
-        return true;
-    }
-    if region_offset != regions_at {
-        return true;
-    }
-    if length_field != length {
-        return true;
-    }
-    block.len() != length
+    let length = block_header::tight_length(block);
+    process_offset != 32
+        || section_offset != block_header::sections_at(block)
+        || region_offset != block_header::regions_at(block)
+        || length_field != length
+        || block.len() != length
 }

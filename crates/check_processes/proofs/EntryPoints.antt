@@ -1,12 +1,9 @@
--- Laws of the search for the section of an entry point.
-use mathlib.Core.Path.{◌≡◌, ◌∙◌}
-use mathlib.Core.Bool.{Bool, true, false, ◌&&◌}
-use mathlib.Core.List.{List}
-use Prim.Native.Nat.{ℕ, ◌+◌, ◌<◌}
-use lib.Dec.{leb, ltb}
+-- The search for the section of an entry point.
+use Rattle.std.proofs.Common.{◌≡◌, sym, ◌∙◌, ap, Bool, true, false, not, ◌&&◌, leb, ltb, List, length, ℕ, ◌+◌, ◌<◌, MatchBool, zero-add, arith}
+use Rattle.std.specs.List.{HoldsAt, AllWithin, range_with_len}
+use Rattle.std.proofs.lemmas.List.FromFn.{length-range_with_len, get_or-range_with_len}
 use Rattle.notation.specs.Lists.{exists}
-use Rattle.laws.specs.Choice.{choose_no}
-use Rattle.laws.specs.Lists.{exists_next, exists_hit}
+use Rattle.laws.specs.Lists.{exists_hit, exists_miss}
 use Rattle.rules.specs.Block.{sections_of, section_record, entry_point_of, address, executable, section_end}
 use Rattle.rules.specs.Refusals.{entry_point_outside}
 
@@ -16,14 +13,22 @@ enters b i j =
     let n = section_record b (i + 1) j in
     executable b n && (leb (address b n) (entry_point_of b (i + 1)) && ltb (entry_point_of b (i + 1)) (section_end b n))
 
-module _ (b : List ℕ) (i j : ℕ) where
-  pub enters_not : exists (enters b i) j ≡ false → enters b i j ≡ false → exists (enters b i) (j + 1) ≡ false
-  enters_not v e = exists_next (enters b i) j ∙ choose_no _ _ e ∙ v
+-- what `any` says of the numbers below n
+abbrev pub Any : (ℕ → Bool) → ℕ → Bool → Type 0
+Any t n r =
+    let js = range_with_len 0 n in
+    MatchBool r ((k : ℕ) × (k < length js) × HoldsAt (λ j. t j ≡ true) js k) (AllWithin (λ j. t j ≡ false) js 0 (length js))
 
-  pub entered : j < sections_of b (i + 1) → enters b i j ≡ true → false ≡ entry_point_outside b i
-  unfolding entry_point_outside
-  entered h e = rw (exists_hit (enters b i) (sections_of b (i + 1)) j e h)
+exists_by_any : (t : ℕ → Bool) (n : ℕ) (r : Bool) → Any t n r → r ≡ exists t n
+exists_by_any t n true h =
+    let len = length-range_with_len 0 n in
+    let k : h.0 < n = omega (arith, h.1) in
+    let at = get_or-range_with_len 0 n h.0 0 k ∙ zero-add h.0 in
+    sym (exists_hit t n h.0 (rw at at (h.2 0)) k)
+exists_by_any t n false h =
+    let len = length-range_with_len 0 n in
+    sym (exists_miss t n (λ j k. rw (get_or-range_with_len 0 n j 0 k ∙ zero-add j) at (h j 0 (omega arith) (omega arith))))
 
-  pub not_entered : j ≡ sections_of b (i + 1) → exists (enters b i) j ≡ false → true ≡ entry_point_outside b i
-  unfolding entry_point_outside
-  not_entered h v = rw (rw h at v)
+pub outside_by_any : (b : List ℕ) (i : ℕ) (r : Bool) → Any (enters b i) (sections_of b (i + 1)) r → not r ≡ entry_point_outside b i
+unfolding entry_point_outside
+outside_by_any b i r h = ap not (exists_by_any (enters b i) (sections_of b (i + 1)) r h)

@@ -1,23 +1,18 @@
 -- Laws of the answer.
-use mathlib.Core.Path.{◌≡◌, refl, sym, ap, ◌∙◌}
-use mathlib.Core.Logic.{◌≢◌}
-use mathlib.Core.Bool.{Bool, true, false}
-use mathlib.Core.List.{List}
-use Prim.Native.Nat.{ℕ, ◌-◌}
-use native.Mathlib.Omega.{arith}
-use lib.ListN.{length}
-use lib.Dec.{eqb, ltb}
-use borrow.Author.Tests.{eq-eqb, ne_eqb, eqb-true, eqb-false}
+use Rattle.std.proofs.Common.{◌≡◌, refl, sym, ap, ◌∙◌, ◌≢◌, Bool, true, false, List, arith, length, eqb, ltb, eq-eqb, ne_eqb, eqb-true, ℕ, ◌-◌, Ok, Err}
+use borrow.Author.Tests.{eqb-false}
 use Rattle.notation.specs.Choice.{choose}
 use Rattle.laws.specs.Choice.{by_test, by_choose, choose_yes, choose_no}
 use Rattle.types.specs.declared.Area.{Area}
-use Rattle.types.specs.declared.Answer.{Answer}
-use Rattle.types.specs.declared.Verdict.{Verdict}
+use Rattle.rules.specs.Answers.{Answer, Verdict}
 use Rattle.rules.specs.Lent.{Image, memory_area, pages_in}
 use Rattle.rules.specs.InPlace.{xip_of}
 use Rattle.rules.specs.Order.{pages_needed, free_pages, tracker_pages}
 use Rattle.rules.specs.Refusals.{ram_too_small, refused, accepted, first_refusal, verdict}
 use Rattle.rules.specs.Load.{refusal_answer, boot_answer, answer_on}
+use Rattle.refusals.specs.declared.Refused.{Refused}
+use Rattle.refusals.specs.declared.Boot.{Boot}
+use Rattle.refusals.specs.Answers.{verdict_of, answer_of}
 use Rattle.accepted.specs.InOrder.{first_none}
 use Rattle.accepted.specs.NoCause.{answer_number, answer_verdict}
 use Rattle.accepted.specs.InPlace.{none_past}
@@ -92,5 +87,14 @@ module _ (x : Image) (ram : Area) where
       let passed : first.number ≡ 0 = (first_none _ _ (ap (λ (v : Verdict). v.number) (sym (verdict_then x ram)) ∙ none-given)).0 in
       rw (choose_yes _ xip (eq-eqb first.number 0 passed), l) (marks_right passed)
 
-  pub verdict_of : (a : Answer) → a ≡ answer_on x ram → refused a.number a.place a.offset ≡ verdict x ram
-  verdict_of a e = rw e (answer_verdict x ram)
+  -- the verdict from it
+  told : (a : Answer) → a ≡ answer_on x ram → refused a.number a.place a.offset ≡ verdict x ram
+  told a e = rw e (answer_verdict x ram)
+
+  pub told_err : (e : Refused) → answer_of (Err e) ≡ answer_on x ram → verdict_of (Err e) ≡ verdict x ram
+  unfolding answer_of verdict_of refusal_answer refused
+  told_err e h = told (answer_of (Err e)) h
+
+  pub told_ok : (p : Boot) (u : Unit) → answer_of (Ok p) ≡ answer_on x ram → verdict_of (Ok u) ≡ verdict x ram
+  unfolding answer_of verdict_of accepted
+  told_ok p u h = told (answer_of (Ok p)) h

@@ -1,11 +1,5 @@
 -- The pages needed, by the place after all tables.
-use mathlib.Core.Path.{◌≡◌}
-use mathlib.Core.Bool.{Bool, true, false}
-use mathlib.Core.List.{List}
-use Prim.Native.Nat.{ℕ, ◌+◌, ◌≤◌, ◌<◌}
-use native.Mathlib.Omega.{arith}
-use lib.Dec.{ltb}
-use borrow.Author.Tests.{lt-ltb, le-ltb}
+use Rattle.std.proofs.Common.{◌≡◌, Bool, true, false, List, arith, ltb, lt-ltb, le-ltb, ℕ, ◌+◌, ◌≤◌, ◌<◌}
 use Rattle.rules.specs.Block.{process_count}
 use Rattle.rules.specs.Order.{tracker_pages, pages_needed}
 use Rattle.order_laws.specs.Places.{root_place}

@@ -1,32 +1,64 @@
 -- Laws of the verdict.
-use mathlib.Core.Path.{◌≡◌, refl, sym, ap, ◌∙◌}
-use mathlib.Core.List.{List, [], ◌∷◌, ◌++◌}
-use Prim.Native.Nat.{ℕ, ◌/◌, ◌≤◌, ◌<◌}
-use native.Mathlib.Omega.{arith}
-use borrow.Author.Tests.{ltb-false}
+use Rattle.std.proofs.Common.{◌≡◌, refl, sym, ap, ◌∙◌, List, [], ◌∷◌, ◌++◌, arith, ltb-false, eq-eqb, ne_eqb, ℕ, ◌/◌, ◌≤◌, ◌<◌, Ok, Err}
 use Rattle.notation.specs.Choice.{choose}
-use Rattle.laws.specs.Choice.{any_none}
+use Rattle.laws.specs.Choice.{any_none, choose_yes, choose_no}
 use Rattle.laws.specs.Lists.{Every, ◌and◌, every_append}
 use Rattle.types.specs.declared.Area.{Area}
-use Rattle.types.specs.declared.RecordCheck.{RecordCheck}
-use Rattle.types.specs.declared.Verdict.{Verdict}
+use Rattle.rules.specs.Answers.{RecordCheck, Verdict}
 use Rattle.rules.specs.Lent.{Image, memory_area, pages_in}
-use Rattle.rules.specs.Block.{sections_at, regions_at, process_at, section_at, region_at}
-use Rattle.rules.specs.Refusals.{whole, ram_unfit, outside, counts_outside, counts_out_of_bounds, ram_too_small, process_record_check, process_check, section_check, entry_point_check, region_check, refused, accepted, first_refusal}
+use Rattle.rules.specs.Block.{process_count, section_count, region_count, sections_at, regions_at, process_at, section_at, region_at}
+use Rattle.rules.specs.Refusals.{whole, records, ram_unfit, outside, counts_outside, counts_out_of_bounds, ram_too_small, process_record_check, process_check, section_check, entry_point_check, region_check, refused, accepted, first_record, first_refusal}
 use Rattle.rules.specs.Refusals.{lent_checks, header_checks, process_checks, block_checks, content_checks, checks, verdict}
 use Rattle.accepted.specs.InOrder.{first_of, first_none, NotZero, first_of_both, step, one_whole, whole_not_given}
-use Rattle.checks.specs.declared.Scan.{Scan}
-use Rattle.checks.specs.declared.Scan.TheVariants.{Processes, Sections, EntryPoints, Regions}
-use Rattle.checks.specs.Scan.{Counted, record_count, check_at, scan_of, record_checks, checks_before12}
+use Rattle.refusals.specs.declared.Refused.{Refused}
+use Rattle.refusals.specs.declared.RecordRefusal.{RecordRefusal}
+use Rattle.refusals.specs.Answers.{check_of, verdict_of}
+use Rattle.refusals.proofs.Given.{number_given}
+use Rattle.checks.specs.Scan.{Counted, record_checks, checks_before12}
+
+-- STEPS THAT END IN `?`: of two verdicts in order, an error of the first is both, and without one the second is
+module _ (v w : Verdict) where
+  pub stops : (e : Refused) → verdict_of (Err e) ≡ v → verdict_of (Err e) ≡ first_of v w
+  unfolding verdict_of refused
+  stops e h = h ∙ sym (choose_no w v (ne_eqb v.number 0 (λ z. number_given e.refusal (ap (λ (k : Verdict). k.number) h ∙ z))))
+
+  pub goes_on : (u : Unit) → verdict_of (Ok u) ≡ v → first_of v w ≡ w
+  unfolding verdict_of accepted refused
+  goes_on u h = choose_yes w v (eq-eqb v.number 0 (ap (λ (k : Verdict). k.number) (sym h)))
 
 module _ (b : List ℕ) (flash ram : Area) where
-  pub records_then : first_refusal (record_checks b flash ram)
-      ≡ first_of (first_refusal (scan_of Processes b flash ram ∷ []))
-      (first_of (first_refusal (scan_of Sections b flash ram ∷ []))
-      (first_of (first_refusal (scan_of EntryPoints b flash ram ∷ []))
-      (first_refusal (scan_of Regions b flash ram ∷ []))))
-  unfolding record_checks
-  records_then = step _ _ _ tt (step _ _ _ tt (step _ _ _ tt refl))
+  -- the verdicts of 6, of 7 to 9, of 10 and of 11, each alone
+  abbrev pub of_processes : Verdict
+  of_processes = first_record (process_check b) 0 (process_count b) accepted
+
+  abbrev pub of_sections : Verdict
+  of_sections = first_record (section_check b flash.length) 0 (section_count b) accepted
+
+  abbrev pub of_entry_points : Verdict
+  of_entry_points = first_record (entry_point_check b) 0 (process_count b) accepted
+
+  abbrev pub of_regions : Verdict
+  of_regions = first_record (region_check b flash ram) 0 (region_count b) accepted
+
+  pub records_then : first_refusal (record_checks b flash ram) ≡ first_of of_processes (first_of of_sections (first_of of_entry_points of_regions))
+  unfolding record_checks first_refusal
+  records_then =
+      let processes = records (process_count b) (process_check b) in
+      let sections = records (section_count b) (section_check b flash.length) in
+      let entry_points = records (process_count b) (entry_point_check b) in
+      let regions = records (region_count b) (region_check b flash ram) ∷ [] in
+      step processes (sections ∷ entry_points ∷ regions) _ tt (step sections (entry_points ∷ regions) _ tt (step entry_points regions _ tt refl))
+
+  module _ (u : Unit) (six : verdict_of (Ok u) ≡ of_processes) where
+    pub past_processes : first_refusal (record_checks b flash ram) ≡ first_of of_sections (first_of of_entry_points of_regions)
+    past_processes = records_then ∙ goes_on of_processes (first_of of_sections (first_of of_entry_points of_regions)) u six
+
+    module _ (nine : verdict_of (Ok u) ≡ of_sections) where
+      pub past_sections : first_refusal (record_checks b flash ram) ≡ first_of of_entry_points of_regions
+      past_sections = past_processes ∙ goes_on of_sections (first_of of_entry_points of_regions) u nine
+
+      pub past_entry_points : verdict_of (Ok u) ≡ of_entry_points → first_refusal (record_checks b flash ram) ≡ of_regions
+      past_entry_points ten = past_sections ∙ goes_on of_entry_points of_regions u ten
 
   lent_numbered : Every NotZero (lent_checks flash ram)
   unfolding lent_checks
@@ -66,7 +98,7 @@ module _ (x : Image) (ram : Area) where
   room = choose (ram_too_small x (pages_in ram).pages) (refused 12 0 0) accepted
 
   parted : checks x ram ≡ checks_before12 x.block flash ram ++ (whole 12 (ram_too_small x (pages_in ram).pages) ∷ [])
-  unfolding checks lent_checks header_checks process_checks block_checks content_checks checks_before12 record_checks record_count check_at
+  unfolding checks lent_checks header_checks process_checks block_checks content_checks checks_before12 record_checks
   parted = refl
 
   pub verdict_then : verdict x ram ≡ first_of (first_refusal (checks_before12 x.block flash ram)) room
@@ -91,13 +123,30 @@ counted b z =
     }
 
 -- and so where a record is
-record_near : (scan : Scan) (b : List ℕ) (flash ram : Area) (i : ℕ) → Counted b → i < record_count scan b → (check_at scan b flash ram i).offset < 0x1_0000_0000
-unfolding record_count check_at process_record_check process_check section_check entry_point_check region_check process_at section_at region_at sections_at regions_at
-record_near Processes b flash ram i c h = omega (arith, c.few_processes)
-record_near Sections b flash ram i c h = omega (arith, c.few_processes, c.few_sections)
-record_near EntryPoints b flash ram i c h = omega (arith, c.few_processes)
-record_near Regions b flash ram i c h = omega (arith, c.few_processes, c.few_sections, c.few_regions)
+pub near : (r : RecordRefusal) (x : RecordCheck) → check_of r ≡ x → x.offset < 0x1_0000_0000 → r.offset < 0x1_0000_0000
+near r x e h = rw (ap (λ (y : RecordCheck). y.offset) e) h
 
-pub offset_fits : (scan : Scan) (b : List ℕ) (flash ram : Area) (i n : ℕ) (r : RecordCheck) → Counted b → n ≡ record_count scan b → i < n
-    → r ≡ check_at scan b flash ram i → r.offset < 0x1_0000_0000
-offset_fits scan b flash ram i n r c e h is = rw is (record_near scan b flash ram i c (rw e at h))
+module _ (b : List ℕ) (c : Counted b) (i : ℕ) where
+  pub process_near : i < process_count b → (process_check b i).offset < 0x1_0000_0000
+  unfolding process_record_check process_check process_at
+  process_near h = omega (arith, c.few_processes)
+
+  pub section_near : (flash : ℕ) → i < section_count b → (section_check b flash i).offset < 0x1_0000_0000
+  unfolding section_check section_at sections_at
+  section_near flash h = omega (arith, c.few_processes, c.few_sections)
+
+  pub entry_point_near : i < process_count b → (entry_point_check b i).offset < 0x1_0000_0000
+  unfolding entry_point_check process_at
+  entry_point_near h = omega (arith, c.few_processes)
+
+  pub region_near : (flash ram : Area) → i < region_count b → (region_check b flash ram i).offset < 0x1_0000_0000
+  unfolding region_check region_at regions_at sections_at
+  region_near flash ram h = omega (arith, c.few_processes, c.few_sections, c.few_regions)
+
+-- the check of a record of any kind has an offset of 32 bits
+pub offset_fits : (b : List ℕ) (flash ram : Area) (i : ℕ) → Counted b
+    → (i < process_count b → (process_check b i).offset < 0x1_0000_0000)
+    × (i < section_count b → (section_check b flash.length i).offset < 0x1_0000_0000)
+    × (i < process_count b → (entry_point_check b i).offset < 0x1_0000_0000)
+    × (i < region_count b → (region_check b flash ram i).offset < 0x1_0000_0000)
+offset_fits b flash ram i c = (process_near b c i, section_near b c i flash.length, entry_point_near b c i, region_near b c i flash ram)

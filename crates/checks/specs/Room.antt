@@ -2,7 +2,7 @@
 use Rattle.std.specs.Prelude.{Bool, List, ℕ, length, eqb, ltb}
 use Rattle.notation.specs.Choice.{choose}
 use Rattle.types.specs.declared.Area.{Area}
-use Rattle.types.specs.declared.Answer.{Answer}
+use Rattle.rules.specs.Answers.{Answer}
 use Rattle.rules.specs.Lent.{Image, memory_area, pages_in}
 use Rattle.rules.specs.Order.{pages_needed}
 use Rattle.rules.specs.Refusals.{refused, first_refusal}

@@ -1,220 +1,145 @@
 // The answer to a load: the first of 01's refusals, in 01's order, that is given, or the counts of pages. What is lent here is only read.
-#![tactic(auto)]
+#![tactic(auto, unfolding(rules::specs::Refusals::refusal_rules, notation::specs::Choice::choose, refusals::specs::Answers::verdict_of))]
 
-ghost use Rattle.std.specs.Prelude.{[], ◌∷◌, ◌≡◌, ◌≤◌, length};
-ghost use Rattle.rules.specs.Lent.{image_of, area_of};
+ghost use Rattle.std.specs.Prelude.{[], ◌∷◌, ◌≡◌, ◌≤◌, ◌<◌, ℕ, length};
+ghost use Rattle.rules.specs.Answers.{RecordCheck};
 ghost use Rattle.rules.specs.Block.{process_count};
-ghost use Rattle.rules.specs.Refusals.{refused, first_refusal, lent_checks, header_checks, verdict};
-ghost use Rattle.rules.specs.Load.{refusal_answer, answer_on};
+ghost use Rattle.rules.specs.Refusals.{whole, accepted, first_record, first_refusal, lent_checks, header_checks, verdict};
+ghost use Rattle.rules.specs.Load.{answer_on};
+ghost use Rattle.lent.specs.Lent.{image as image_of};
+ghost use Rattle.refusals.specs.Numbers.{number_of};
+ghost use Rattle.refusals.specs.Answers.{check_of, verdict_of, answer_of};
 ghost use Rattle.xip_sections.specs.Marks.{marked};
-ghost use Rattle.checks.specs.Scan.{Counted, record_count, check_at, scan_of, record_checks, checks_before12};
+ghost use Rattle.checks.specs.Scan.{Counted, record_checks, checks_before12};
 ghost use Rattle.checks.specs.Room.{room_answer, marked_answer, marks_after};
 
-use types::{Answer, Area, RecordCheck, Verdict};
+use check_header::{
+    block_too_short, counts_out_of_bounds, flash_unfit, format_unknown, layout_not_tight, ram_unfit,
+};
+use check_processes::{check_entry_point, check_process};
+use check_regions::check_region;
+use check_sections::check_section;
+use lent::Image;
+use refusals::{Boot, RecordRefusal, Refusal, Refused};
+use types::Area;
 
-// A verdict; `refused(0, 0, 0)` is the one that boots.
-fn refused(number: u32, place: u32, offset: u32) -> Verdict
-    ensures { result ≡ refused number place offset }
+// A refusal that is of no record, where it is given.
+fn refuse_if(given: bool, refusal: Refusal) -> Result<(), Refused>
+    ensures { verdict_of result ≡ first_refusal (whole (number_of refusal) given ∷ []) }
 {
-    Verdict {
-        number,
-        place,
-        offset,
+    if given {
+        Err(Refused::whole(refusal))
+    } else {
+        Ok(())
     }
 }
 
-// The checks that go record by record.
-#[derive(Clone, Copy)]
-enum Scan {
-    Processes,
-    Sections,
-    EntryPoints,
-    Regions,
-}
-
-// How many records a scan goes through.
-fn record_count(scan: Scan, block: &[u8]) -> u32
-    ensures { result ≡ record_count scan block.now }
+// The first refusal that `check` gives among records 0 to n - 1, whose offsets are numbers of 32 bits.
+fn refuse_records<F: Fn(u32) -> RecordRefusal>(n: u32, check: F) -> Result<(), Refused>
+    requires callable { F.IsAlwaysCallable check }
+    requires near { (i : ℕ) (r : _) → i < n → F.post check i r → r.offset < 0x1_0000_0000 }
+    ensures { (f : ℕ → RecordCheck) → ((i : ℕ) (r : _) → i < n → F.post check i r → check_of r ≡ f i) → verdict_of result ≡ first_record f 0 n accepted }
 {
-    match scan {
-        Scan::Processes => block_header::process_count(block),
-        Scan::Sections => block_header::section_count(block),
-        Scan::EntryPoints => block_header::process_count(block),
-        Scan::Regions => block_header::region_count(block),
-    }
-}
-
-// The check of record i, where flash and RAM lie so.
-fn check_at(scan: Scan, block: &[u8], flash: Area, ram: Area, i: u32) -> RecordCheck
-    ensures { result ≡ check_at scan block.now flash ram i }
-{
-    match scan {
-        Scan::Processes => check_processes::check_process(block, i),
-        Scan::Sections => check_sections::check_section(block, flash.length, i),
-        Scan::EntryPoints => check_processes::check_entry_point(block, i),
-        Scan::Regions => check_regions::check_region(block, flash, ram, i),
-    }
-}
-
-// The first refusal of a scan. Where 4 is not given, offsets are numbers of 32 bits.
-fn scan_refusal(scan: Scan, block: &[u8], flash: Area, ram: Area) -> Verdict
-    requires { Counted block.now }
-    ensures { result ≡ first_refusal (scan_of scan block.now flash ram ∷ []) }
-{
-    let n = record_count(scan, block);
-    let mut i: u32 = 0;
-    while i < n {
-        let record = check_at(scan, block, flash, ram, i);
-        if record.number != 0 {
-            return refused(record.number, i, record.offset as u32);
+    for i in 0..n {
+        let record = check(i);
+        if let Some(refusal) = record.refusal {
+            return Err(Refused {
+                refusal,
+                place: i,
+                offset: record.offset as u32,
+            });
         }
-        i += 1;
     }
-    refused(0, 0, 0)
+    Ok(())
 }
 
 // Refusals 1 and 13, in order.
-fn lent_refusal(flash: Area, ram: Area) -> Verdict
-    ensures { result ≡ first_refusal (lent_checks flash ram) }
+fn check_lent(flash: Area, ram: Area) -> Result<(), Refused>
+    ensures { verdict_of result ≡ first_refusal (lent_checks flash ram) }
 {
-    if check_header::ram_unfit(ram) {
-        return refused(1, 0, 0);
-    }
-    if check_header::flash_unfit(flash, ram) {
-        return refused(13, 0, 0);
-    }
-    refused(0, 0, 0)
+    refuse_if(ram_unfit(ram), Refusal::RamUnfit)?;
+    refuse_if(flash_unfit(flash, ram), Refusal::FlashUnfit)
 }
 
 // Refusals 2 to 5, in order.
-fn header_refusal(block: &[u8]) -> Verdict
-    ensures { result ≡ first_refusal (header_checks block.now) }
+fn check_layout(block: &[u8]) -> Result<(), Refused>
+    ensures { verdict_of result ≡ first_refusal (header_checks block.now) }
 {
-    if check_header::block_too_short(block) {
-        return refused(2, 0, 0);
-    }
-    if check_header::format_unknown(block) {
-        return refused(3, 0, 0);
-    }
-    if check_header::counts_out_of_bounds(block) {
-        return refused(4, 0, 0);
-    }
-    if check_header::layout_not_tight(block) {
-        return refused(5, 0, 0);
-    }
-    refused(0, 0, 0)
+    refuse_if(block_too_short(block), Refusal::BlockTooShort)?;
+    refuse_if(format_unknown(block), Refusal::FormatUnknown)?;
+    refuse_if(counts_out_of_bounds(block), Refusal::CountsOutOfBounds)?;
+    refuse_if(layout_not_tight(block), Refusal::LayoutNotTight)
 }
 
 // Refusals 6 to 11, in order.
-fn record_refusal(block: &[u8], flash: Area, ram: Area) -> Verdict
+fn check_records(block: &[u8], flash: Area, ram: Area) -> Result<(), Refused>
     requires { Counted block.now }
-    ensures { result ≡ first_refusal (record_checks block.now flash ram) }
+    ensures { verdict_of result ≡ first_refusal (record_checks block.now flash ram) }
 {
-    let process = scan_refusal(Scan::Processes, block, flash, ram);
-    if process.number != 0 {
-        return process;
-    }
-    let section = scan_refusal(Scan::Sections, block, flash, ram);
-    if section.number != 0 {
-        return section;
-    }
-    let entry_point = scan_refusal(Scan::EntryPoints, block, flash, ram);
-    if entry_point.number != 0 {
-        return entry_point;
-    }
-    scan_refusal(Scan::Regions, block, flash, ram)
+    let processes = block_header::process_count(block);
+    let sections = block_header::section_count(block);
+    let regions = block_header::region_count(block);
+    refuse_records(processes, |i| check_process(block, i))?;
+    refuse_records(sections, |n| check_section(block, flash.length, n))?;
+    refuse_records(processes, |i| check_entry_point(block, i))?;
+    refuse_records(regions, |i| check_region(block, flash, ram, i))
 }
 
-// The first refusal but 12.
-fn refusal_before_12(block: &[u8], flash: Area, ram: Area) -> Verdict
-    ensures { result ≡ first_refusal (checks_before12 block.now flash ram) }
+// All refusals but 12, in order.
+fn check_before_12(block: &[u8], flash: Area, ram: Area) -> Result<(), Refused>
+    ensures { verdict_of result ≡ first_refusal (checks_before12 block.now flash ram) }
 {
-    let lent = lent_refusal(flash, ram);
-    if lent.number != 0 {
-        return lent;
-    }
-    let header = header_refusal(block);
-    if header.number != 0 {
-        return header;
-    }
-    record_refusal(block, flash, ram)
-}
-
-// The answer that a refusal gives.
-fn refusal(verdict: Verdict) -> Answer
-    ensures { result ≡ refusal_answer verdict }
-{
-    Answer {
-        number: verdict.number,
-        place: verdict.place,
-        taken: 0,
-        free: 0,
-        tracker: 0,
-        offset: verdict.offset,
-    }
+    check_lent(flash, ram)?;
+    check_layout(block)?;
+    check_records(block, flash, ram)
 }
 
 // The answer where all but 12 are not given, for RAM of `pages` pages: refusal 12, or a boot. The pages needed are the place after all
 // tables.
-fn room_answer(block: &[u8], xip: &[u8], pages: u32) -> Answer
+fn room_answer(block: &[u8], xip: &[u8], pages: u32) -> Result<Boot, Refused>
     requires { (pages ≤ 4096) × (process_count block.now ≤ 16) }
-    ensures { result ≡ room_answer block.now (marked xip.now) pages }
+    ensures { answer_of result ≡ room_answer block.now (marked xip.now) pages }
 {
     let after_all = block_header::process_count(block) + 1;
     let needed = order_places::root_place(block, xip, pages, after_all);
     if pages < needed {
-        return refusal(refused(12, 0, 0));
+        return Err(Refused::whole(Refusal::RamTooSmall));
     }
     let tracker = order_tracker::tracker_pages(block, pages) as u32;
-    Answer {
-        number: 0,
-        place: 0,
+    Ok(Boot {
         taken: needed,
         free: pages - needed,
         tracker,
-        offset: 0,
-    }
+    })
 }
 
-// The answer to a load into RAM of `ram` bytes from `start` on: number, place, pages taken, pages free, tracker pages and offset; in a
-// refusal the three counts are 0. Where none but 12 is given, `xip` gets the marks of the sections that are used in place: they are what
-// the pages are counted by, so that it must have room for all 64.
-pub fn mark_and_answer(
-    block: &[u8],
-    flash: &[u8],
-    flash_start: u32,
-    start: u32,
-    ram: usize,
-    xip: &mut [u8],
-) -> Answer
-    ensures { (result ≡ marked_answer (image_of block.now flash_start flash.now) (area_of start ram) (length xip.old))
-        × (xip.new ≡ marks_after (image_of block.now flash_start flash.now) (area_of start ram) xip.old) }
+// The answer to a load of `image` into RAM that lies so. Where none but 12 is given, `xip` gets the marks of the sections that are used in
+// place: they are what the pages are counted by, so that it must have room for all 64.
+pub fn mark_and_answer(image: Image<'_>, ram: Area, xip: &mut [u8]) -> Result<Boot, Refused>
+    ensures answer { answer_of result ≡ marked_answer (image_of image.entry) ram (length xip.old) }
+    ensures marks { xip.new ≡ marks_after (image_of image.entry) ram xip.old }
 {
-    let flash_area = Area {
-        start: flash_start,
-        length: flash.len(),
+    let flash = Area {
+        start: image.flash.start,
+        length: image.flash.bytes.len(),
     };
-    let area = Area { start, length: ram };
-    let first = refusal_before_12(block, flash_area, area);
-    if first.number != 0 {
-        return refusal(first);
-    }
-    xip_sections::mark_sections(block, flash, xip);
-    room_answer(block, xip, (ram / 4096) as u32)
+    check_before_12(image.block, flash, ram)?;
+    xip_sections::mark_sections(image.block, image.flash.bytes, xip);
+    room_answer(image.block, xip, (ram.length / 4096) as u32)
 }
 
 // The same answer.
-pub fn answer_on(block: &[u8], flash: &[u8], flash_start: u32, start: u32, ram: usize) -> Answer
-    ensures { result ≡ answer_on (image_of block.now flash_start flash.now) (area_of start ram) }
+pub fn answer_on(image: Image<'_>, ram: Area) -> Result<Boot, Refused>
+    ensures { answer_of result ≡ answer_on (image_of image.entry) ram }
 {
     let mut xip = [0u8; 64];
-    mark_and_answer(block, flash, flash_start, start, ram, &mut xip)
+    mark_and_answer(image, ram, &mut xip)
 }
 
-// 01's verdict on a block, a flash image, and RAM of `ram` bytes from `start` on: number, place and offset of the answer.
-pub fn check(block: &[u8], flash: &[u8], flash_start: u32, start: u32, ram: usize) -> Verdict
-    ensures { result ≡ verdict (image_of block.now flash_start flash.now) (area_of start ram) }
+// 01's verdict on `image` and RAM that lies so.
+pub fn check(image: Image<'_>, ram: Area) -> Result<(), Refused>
+    ensures { verdict_of result ≡ verdict (image_of image.entry) ram }
 {
-    let answer = answer_on(block, flash, flash_start, start, ram);
-    refused(answer.number, answer.place, answer.offset)
+    answer_on(image, ram)?;
+    Ok(())
 }

@@ -4,8 +4,7 @@
 use Rattle.std.specs.Prelude.{◌≡◌, refl, ◌≢◌, ◌↔◌, ◌≤◌}
 use Rattle.std.proofs.Common.{ne_eqb}
 use Rattle.types.specs.declared.Area.{Area}
-use Rattle.types.specs.declared.Verdict.{Verdict}
-use Rattle.types.specs.declared.Answer.{Answer}
+use Rattle.rules.specs.Answers.{Verdict, Answer}
 use Rattle.rules.specs.Lent.{Image, Memory, memory_area}
 use Rattle.rules.specs.Refusals.{refused, checks, verdict}
 use Rattle.rules.specs.Load.{boots, refusal_answer, answer_on, answer, ram_after}

@@ -17,7 +17,7 @@ use Rattle.types.specs.declared.Rights.{Rights}
 use Rattle.types.specs.declared.Entry.TheVariants.{Page}
 use Rattle.types.specs.declared.View.{View}
 use Rattle.types.specs.declared.View.TheVariants as S
-use Rattle.types.specs.declared.Answer.{Answer}
+use Rattle.rules.specs.Answers.{Answer}
 use Rattle.rules.specs.Lent.{Image, Memory, memory_area, page_area, pages_in, lies_in}
 use Rattle.rules.specs.Block.{process_count, sections_of, section_record, owner_of, address, size, flash_offset_of, is_no_copy, first_page_of, last_page_of, page_count}
 use Rattle.rules.specs.Space.{Data, section_page, tracker_page, process_list, block_copy, Mapping, unmapped, stack, maps, section_rights, kernel_write, has_page, section_mapping, mapping_at}

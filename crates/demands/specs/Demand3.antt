@@ -6,8 +6,7 @@ use Rattle.std.proofs.Common.{sym, ap, ◌∙◌, arith, eqb-true, eq-eqb, le-lt
 use Rattle.std.proofs.Math.Decide.{ℕ_discrete}
 use Rattle.notation.specs.Choice.{choose}
 use Rattle.notation.specs.Words.{byte_of}
-use Rattle.types.specs.declared.Verdict.{Verdict}
-use Rattle.types.specs.declared.Answer.{Answer}
+use Rattle.rules.specs.Answers.{Verdict, Answer}
 use Rattle.types.specs.declared.Area.{Area}
 use Rattle.rules.specs.Lent.{Image, Memory, memory_area, pages_in}
 use Rattle.rules.specs.Block.{process_count, section_count}

@@ -11,12 +11,14 @@ const SECTIONS_MAX: u32 = 64;
 
 // How many tables a process has: its root table and its leaf tables. 0 where it has more than 64 sections, so that no block makes the
 // count run long.
+#[tactic(auto, unfolding(notation::specs::Choice::choose))]
 pub fn bench_table_count(block: &[u8], process: u32) -> u32
     ensures { result ≡ choose (ltb 64 (sections_of block.now process)) 0 (length (table_uses block.now process)) }
 {
     let record = block_records::read_process(block, process);
     if SECTIONS_MAX < record.sections {
-        return 0;
+        0
+    } else {
+        order_leaves::table_count(block, process)
     }
-    order_leaves::table_count(block, process)
 }

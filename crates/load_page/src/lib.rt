@@ -17,11 +17,11 @@ pub fn section_page(page: &mut [u8], section: Section, flash: &[u8], i: u32)
         return;
     }
     let offset = section.address as usize % 4096;
-    let first = 4096 * (i as usize);
+    let first = 4096 * i as usize;
     let bytes = slices::part(flash, section.flash_offset as usize, section.size as usize);
     // In the first page the copy starts at the offset; in a later one it skips the bytes of the pages before.
-    let rest = slices::tail(bytes, numbers::minus(first, offset));
-    stores::copy_and_clear(page, numbers::minus(offset, first), rest);
+    let rest = slices::tail(bytes, first.saturating_sub(offset));
+    stores::copy_and_clear(page, offset.saturating_sub(first), rest);
 }
 
 // The copy of the block, as much of it as fits, and zero after it.

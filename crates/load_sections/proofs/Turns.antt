@@ -1,14 +1,8 @@
 -- What each loop holds, turn by turn: `Wrote`, for the pages so far.
-use mathlib.Core.Path.{◌≡◌, refl, sym, ◌∙◌}
-use mathlib.Core.Bool.{Bool, true, ◌&&◌}
-use mathlib.Core.List.{List}
-use Prim.Native.Nat.{ℕ, ◌+◌, ◌-◌, ◌*◌, ◌≤◌}
-use native.Mathlib.Omega.{arith}
-use lib.Dec.{leb}
-use borrow.Author.Tests.{leb-true}
+use Rattle.std.proofs.Common.{◌≡◌, refl, sym, ◌∙◌, Bool, true, List, ℕ, ◌+◌, ◌-◌, arith}
 use Rattle.notation.specs.Choice.{choose}
 use Rattle.notation.specs.Lists.{gather}
-use Rattle.laws.specs.Choice.{choose_yes, and_left, and_right}
+use Rattle.laws.specs.Choice.{choose_yes}
 use Rattle.rules.specs.Block.{process_count, sections_of, section_record, first_section_of}
 use Rattle.rules.specs.Space.{section_page}
 use Rattle.rules.specs.Order.{Use, holds, pages_taken, section_pages, section_uses, all_sections}
@@ -19,13 +13,6 @@ use Rattle.block_records.specs.declared.Section.{Section}
 use Rattle.block_records.specs.Read.{IsSection}
 use Rattle.load_page.specs.Pages.{page_of, page_of_record}
 use Rattle.load_sections.specs.Pages.{WrotePages}
-
--- a test of RAM that passed, among others
-pub room_left : (count left bytes : ℕ) (a : Bool) {has both : Bool} → has ≡ (leb count left && leb (4096 * left) bytes) → both ≡ (a && has) → both ≡ true
-    → (count ≤ left) × (4096 * left ≤ bytes)
-room_left count left bytes a h b t =
-    let p = rw h at (and_right a _ (rw b at t)) in
-    (leb-true _ _ (and_left _ _ p), leb-true _ _ (and_right (leb count left) _ p))
 
 -- PAGES, whatever they are used for
 module _ {f : ℕ → ℕ → ℕ} where

@@ -2,7 +2,7 @@
 // sections that are used in place: they take no page.
 #![tactic(auto)]
 
-ghost use Rattle.std.specs.Prelude.{◌≡◌, ◌&&◌, ◌+◌, ◌*◌, ◌≤◌, leb, length};
+ghost use Rattle.std.specs.Prelude.{◌≡◌, ◌+◌, ◌*◌, ◌≤◌, length};
 ghost use Rattle.rules.specs.Order.{section_pages, section_uses, all_sections};
 ghost use Rattle.writing.specs.Pages.{put};
 ghost use Rattle.writing.specs.Uses.{Wrote};
@@ -12,17 +12,18 @@ ghost use Rattle.load_page.specs.Pages.{page_of};
 ghost use Rattle.load_sections.specs.Pages.{WrotePages};
 
 use block_records::Section;
-use page_allocator::PageAllocator;
+use page_allocator::{PageAllocator, fill_page};
 use types::RamPage;
 
 // Page i of a section into RAM page k.
 fn load_page(ram: &mut [u8], k: RamPage, section: Section, flash: &[u8], i: u32)
     ensures { ram.new ≡ put ram.old k.0 (page_of section flash.now i) }
 {
-    let from = numbers::least(k.0 as usize * 4096, ram.len());
-    let to = numbers::least(from + 4096, ram.len());
-    let page = &mut ram[from..to];
-    load_page::section_page(page, section, flash, i);
+    fill_page(
+        ram,
+        k,
+        |page| load_page::section_page(page, section, flash, i),
+    );
 }
 
 // The first `count` pages of a section.
@@ -36,12 +37,10 @@ fn load_pages(
     ensures { WrotePages (page_of section flash.now) count ram.old from.left ram.new result.left }
 {
     let mut next = from;
-    let mut i: u32 = 0;
-    while i < count {
+    for i in 0..count {
         let got = next.allocate();
         load_page(ram, got.page, section, flash, i);
         next = got.rest;
-        i += 1;
     }
     next
 }
@@ -56,8 +55,8 @@ fn clear_page(ram: &mut [u8], k: RamPage)
     stores::clear(page);
 }
 
-// Clears `count` pages that RAM has. Nothing but the page's number changes from turn to turn, so that a compiler can make all of it one
-// memset.
+// Clears `count` pages that RAM has. A while on the pages left: nothing but the page's number changes from turn to turn, and none runs out, so
+// that a compiler makes all of it one memset.
 fn clear_pages(ram: &mut [u8], count: u32, from: PageAllocator) -> PageAllocator
     requires { (count ≤ from.left) × (4096 * from.left ≤ length ram.old) }
     ensures { WrotePages (λ i o. 0) count ram.old from.left ram.new result.left }
@@ -70,13 +69,6 @@ fn clear_pages(ram: &mut [u8], count: u32, from: PageAllocator) -> PageAllocator
         next = got.rest;
     }
     next
-}
-
-// RAM of `bytes` bytes has the pages that are left, and they are as many as `count`.
-fn has_pages(bytes: usize, count: u32, from: PageAllocator) -> bool
-    ensures { result ≡ (leb count from.left && leb (4096 * from.left) bytes) }
-{
-    numbers::both(count <= from.left, 4096 * (from.left as usize) <= bytes)
 }
 
 // Section j, counted from 0, of process q: no page of it where it is used in place.
@@ -95,11 +87,12 @@ fn load_section(
     let process = block_records::read_process(block, q);
     let n = process.first_section as usize + j as usize;
     let section = block_records::read_section(block, n);
-    let pages = xip_sections::pages_taken(xip, n, section.pages);
-    if numbers::both(section.no_copy, has_pages(ram.len(), pages, from)) {
-        return clear_pages(ram, pages, from);
+    let count = xip_sections::pages_taken(xip, n, section.pages);
+    let has_pages = count <= from.left && 4096 * from.left as usize <= ram.len();
+    if section.no_copy && has_pages {
+        return clear_pages(ram, count, from);
     }
-    load_pages(ram, section, flash, pages, from)
+    load_pages(ram, section, flash, count, from)
 }
 
 // All sections of process q.
@@ -115,12 +108,9 @@ fn load_process(
         ram.old from.left ram.new result.left }
 {
     let process = block_records::read_process(block, q);
-    let count = process.sections;
     let mut next = from;
-    let mut j: u32 = 0;
-    while j < count {
+    for j in 0..process.sections {
         next = load_section(ram, block, flash, xip, q, j, next);
-        j += 1;
     }
     next
 }
@@ -136,12 +126,10 @@ pub fn load_sections(
     ensures { Wrote (section_content block.now flash.now) (all_sections block.now (marked xip.now))
         ram.old from.left ram.new result.left }
 {
-    let users = numbers::minus(block_header::process_count(block) as usize, 1) as u32;
+    let users = block_header::process_count(block).saturating_sub(1);
     let mut next = from;
-    let mut i: u32 = 0;
-    while i < users {
+    for i in 0..users {
         next = load_process(ram, block, flash, xip, i + 2, next);
-        i += 1;
     }
     load_process(ram, block, flash, xip, 1, next)
 }

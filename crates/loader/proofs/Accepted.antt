@@ -1,10 +1,6 @@
 -- What the answer says of RAM.
-use mathlib.Core.Path.{◌≡◌, refl, sym, ap, ◌∙◌}
-use mathlib.Core.Logic.{◌≢◌}
-use mathlib.Core.List.{List}
-use Prim.Native.Nat.{ℕ, ◌/◌}
-use borrow.Author.Tests.{eq-eqb, ne_eqb}
-use Rattle.types.specs.declared.Answer.{Answer}
+use Rattle.std.proofs.Common.{◌≡◌, refl, sym, ap, ◌∙◌, ◌≢◌, List, ℕ, ◌/◌, eq-eqb, ne_eqb}
+use Rattle.rules.specs.Answers.{Answer}
 use Rattle.rules.specs.Lent.{Image, Memory, memory_area, pages_in}
 use Rattle.rules.specs.InPlace.{xip_of}
 use Rattle.rules.specs.Order.{pages_needed}

@@ -1,13 +1,7 @@
 -- Laws of the walk over the leaf tables of a process.
-use mathlib.Core.Path.{◌≡◌, refl, ◌∙◌}
-use mathlib.Core.Logic.{◌≢◌}
-use mathlib.Core.Bool.{Bool, true, false}
-use mathlib.Core.List.{List}
-use Prim.Native.Nat.{ℕ, zero, suc, ◌+◌, ◌/◌, ◌≤◌, ◌<◌, max}
-use native.Mathlib.Decide.{dec_lt, ℕ_discrete}
-use native.Mathlib.Omega.{arith}
-use lib.Dec.{leb, eqb}
-use borrow.Author.Tests.{eq-eqb, ne_eqb, eqb-true, le-leb, lt-leb}
+use Rattle.std.proofs.Common.{◌≡◌, refl, ◌∙◌, ◌≢◌, Bool, true, false, List, ℕ, zero, suc, ◌+◌, ◌/◌, ◌≤◌, ◌<◌, max, arith, leb, eqb, eq-eqb, ne_eqb, eqb-true, le-leb}
+use Rattle.std.proofs.Math.Decide.{dec_lt, ℕ_discrete}
+use borrow.Author.Tests.{lt-leb}
 use Rattle.notation.specs.Choice.{choose}
 use Rattle.notation.specs.Lists.{exists}
 use Rattle.rules.specs.Block.{first_section_of, sections_of, section_record, first_page_of, last_page_of}
@@ -19,7 +13,13 @@ use Rattle.block_records.specs.Read.{IsSection}
 use Rattle.block_records.specs.declared.Section.{Section}
 use Rattle.order_laws.specs.Places.{pages_before, process_pages, section_place, pages_before_none, pages_before_next}
 use Rattle.accepted.specs.Sections.{own_slot}
-use Rattle.loader.specs.LeafCursor.{Walkable, Passed, LeafFrom}
+use Rattle.loader.specs.LeafCursor.{First, Walkable, Passed}
+
+-- the first leaf table from root slot m on has slot r; the sections before section j end below it
+pub record LeafAt (b : List ℕ) (xip : ℕ → Bool) (q m r j place : ℕ) : Type 0 where
+  pub first : First (has_leaf b q) m r
+  pub here : has_leaf b q r ≡ true
+  pub passed : Passed b xip q r j place
 
 own_kernel : (q : ℕ) → q ≡ 1 → own_slot q ≡ 1023
 unfolding own_slot
@@ -107,12 +107,15 @@ module _ {b : List ℕ} {xip : ℕ → Bool} {q : ℕ} (w : Walkable b xip q) wh
     | no l ↦ omega arith
   ]
 
+  pub leaf_inside : (k : ℕ) → has_leaf b q k ≡ true → k < 1024
+  leaf_inside k e = omega (arith, leaf_up_to k e, own_inside q)
+
   pub user_slot : (k : ℕ) → q ≢ 1 → has_leaf b q k ≡ true → k ≢ 1023
   user_slot k n e z = omega (arith, leaf_up_to k e, own_user q n)
 
   -- THE WALK
   -- section j does not end below slot m: the next leaf table is its first from m on
-  found : {m j place r : ℕ} → Passed b xip q m j place → j < sections_of b q → m ≤ to b q j → r ≡ max m (from b q j) → LeafFrom b xip q m r j place
+  found : {m j place r : ℕ} → Passed b xip q m j place → j < sections_of b q → m ≤ to b q j → r ≡ max m (from b q j) → LeafAt b xip q m r j place
   found {m} {j} {place} {r} p h l e =
       let own = w.rising.up_to q j w.low w.high h in
       let up = w.rising.ends q j w.low w.high h in
@@ -130,37 +133,37 @@ module _ {b : List ℕ} {xip : ℕ → Bool} {q : ℕ} (w : Walkable b xip q) wh
           ]);
           here = λ _. section_leaf j r h (omega arith) (omega arith);
         };
+        here = section_leaf j r h (omega arith) (omega arith);
         passed = passed_later r p (omega arith);
       }
 
   pub leaf_found : {m j place r first : ℕ} {s : Section} → Passed b xip q m j place → j < sections_of b q → first ≡ first_section_of b q → IsSection b (first + j) s
-      → m ≤ s.last_page.0 / 1024 → r ≡ max m (s.first_page.0 / 1024) → LeafFrom b xip q m r j place
+      → m ≤ s.last_page.0 / 1024 → r ≡ max m (s.first_page.0 / 1024) → LeafAt b xip q m r j place
   unfolding section_record
   leaf_found p h f is l e = found p h (rw (is.last_page, f) at l) (rw (is.first_page, f) at e)
 
   -- all sections end below slot m: the next leaf table is the process's own, if it does not
-  pub leaf_own : {m j place r s : ℕ} → Passed b xip q m j place → j ≡ sections_of b q → s ≡ own_slot q → (s < m → r ≡ 1024) → (m ≤ s → r ≡ s) → LeafFrom b xip q m r j place
-  leaf_own {m} {j} {place} {r} {s} p e own past here =
-      let none : (k : ℕ) → m ≤ k → (i : ℕ) → i < sections_of b q → at b q i k ≡ false = λ k a i n. not_above b q i k (omega (arith, p.below i (omega arith))) in
-      elim (dec_lt s m) [
-        | yes l ↦ let at_end : r ≡ 1024 = past l in record {
-          first = record { low = omega arith; high = omega arith; before = λ k a z. no_leaf k (λ x. omega arith) (none k a); here = λ x. absurd (omega arith) };
-          passed = record {
-            inside = p.inside;
-            below = λ k a. omega (arith, own_inside q, w.rising.up_to q k w.low w.high (omega arith));
-            at_place = p.at_place;
-          };
-        }
-        | no l ↦ let at_own : r ≡ s = here (omega arith) in record {
-          first = record {
-            low = omega arith;
-            high = omega (arith, own_inside q);
-            before = λ k a z. no_leaf k (λ x. omega arith) (none k a);
-            here = λ _. rw (at_own, own) (own_leaf b q);
-          };
-          passed = passed_later r p (omega arith);
-        }
-      ]
+  pub leaf_own : {m j place n r : ℕ} → Passed b xip q m j place → n ≡ sections_of b q → n ≤ j → r ≡ own_slot q → m ≤ r → LeafAt b xip q m r n place
+  leaf_own {m} {j} {n = n} {r} p e past own l = record {
+    first = record {
+      low = omega arith;
+      high = omega (arith, own_inside q);
+      before = λ k a z. no_leaf k (λ x. omega arith) (λ i h. not_above b q i k (omega (arith, p.below i (omega arith))));
+      here = λ _. rw own (own_leaf b q);
+    };
+    here = rw own (own_leaf b q);
+    passed =
+        let same : j ≡ n = omega (arith, p.inside) in
+        rw same at (passed_later r p l);
+  }
+
+  pub leaf_none : {m j place s : ℕ} → Passed b xip q m j place → j ≡ sections_of b q → s ≡ own_slot q → s < m → First (has_leaf b q) m 1024
+  leaf_none p e own l = record {
+    low = omega arith;
+    high = omega arith;
+    before = λ k a z. no_leaf k (λ x. omega arith) (λ i n. not_above b q i k (omega (arith, p.below i (omega arith))));
+    here = λ x. absurd (omega arith);
+  }
 
   pub passed_room : {m j place : ℕ} → Passed b xip q m j place → place ≤ 4096
   unfolding process_pages

@@ -1,10 +1,5 @@
 -- The process list's bytes: word by word, and the page of each root table.
-use mathlib.Core.Path.{◌≡◌, refl, ◌∙◌}
-use mathlib.Core.List.{List}
-use mathlib.Core.Bool.{Bool}
-use Prim.Native.Nat.{ℕ, ◌+◌, ◌-◌, ◌*◌, ◌/◌, ◌%◌, ◌≤◌, ◌<◌}
-use native.Mathlib.Omega.{arith}
-use lib.ListN.{length, take, drop, length-take, length-drop}
+use Rattle.std.proofs.Common.{◌≡◌, refl, ◌∙◌, List, Bool, ℕ, ◌+◌, ◌-◌, ◌*◌, ◌/◌, ◌%◌, ◌≤◌, ◌<◌, arith, length, take, drop, length-take, length-drop}
 use borrow.Rule.Slice.PartMut.{put_mid, mid_of}
 use Rattle.notation.specs.Lists.{tab}
 use Rattle.notation.specs.Words.{byte_of}

@@ -1,14 +1,6 @@
 -- The pages of root and leaf tables, written.
-use mathlib.Core.Path.{◌≡◌, refl, sym, ap, ◌∙◌}
-use mathlib.Core.Bool.{Bool, true, false}
-use mathlib.Core.List.{List, [], ◌∷◌, append-nil}
-use Prim.Native.Nat.{ℕ, zero, suc, ◌+◌, ◌-◌, ◌*◌, ◌/◌, ◌%◌, ◌≤◌, ◌<◌, min}
-use native.Mathlib.Nat.{mod-eq_of_lt}
-use native.Mathlib.Decide.{ℕ_discrete}
-use native.Mathlib.Omega.{arith}
-use lib.ListN.{length, get_or, set, replicate}
-use lib.Seq.{get_or-set_same, get_or-set_other}
-use borrow.Author.Tests.{eq-eqb, ne_eqb, lt-ltb}
+use Rattle.std.proofs.Common.{◌≡◌, refl, sym, ap, ◌∙◌, Bool, true, false, List, [], ◌∷◌, append-nil, ℕ, zero, suc, ◌+◌, ◌-◌, ◌*◌, ◌/◌, ◌%◌, ◌≤◌, ◌<◌, min, mod-eq_of_lt, arith, length, get_or, set, replicate, get_or-set_same, get_or-set_other, eq-eqb, ne_eqb, lt-ltb}
+use Rattle.std.proofs.Math.Decide.{ℕ_discrete}
 use borrow.Rule.Slice.PartMut.{put_mid, mid_of, mid_len}
 use Rattle.notation.specs.Choice.{choose}
 use Rattle.notation.specs.Lists.{tab, gather, sum}
@@ -87,10 +79,8 @@ next_leaves b xip start ram q {m} {r} f h w =
     rw none w
 
 -- THE ROOT TABLE
--- the slots below m point to their leaf tables, and `page` is that of the next one, for slot m
+-- the slots below m point to their leaf tables, and `page` is that of the next one
 pub record Pointing (b : List ℕ) (q first : ℕ) (d₀ d : List ℕ) (page m : ℕ) : Type 0 where
-  pub inside : m ≤ 1024
-  pub here : m < 1024 → has_leaf b q m ≡ true
   pub next : page ≡ first - leaves_below b q m
   pub done : Written (leaf_pointer b q first) 0 m d₀ d
 
@@ -102,35 +92,35 @@ below_skip b q a d h =
     let s : sum (a + d) f ≡ sum a f + d * 0 = sum_span f 0 a d (λ k l m. one_no (h k l m)) in
     omega arith
 
-skip_to : (b : List ℕ) (q first : ℕ) {d₀ d : List ℕ} {page m r : ℕ} → d₀ ≡ tab 1024 (λ i. 0) → m ≤ 1024 → page ≡ first - leaves_below b q m
-    → Written (leaf_pointer b q first) 0 m d₀ d → First (has_leaf b q) m r → Pointing b q first d₀ d page r
+skip_to : (b : List ℕ) (q first : ℕ) {d₀ d : List ℕ} {page m r : ℕ} → d₀ ≡ tab 1024 (λ i. 0) → m ≤ 1024 → Pointing b q first d₀ d page m → First (has_leaf b q) m r → Pointing b q first d₀ d page r
 unfolding leaf_pointer
-skip_to b q first {d₀} {d} {page} {m} {r} z h e w f =
+skip_to b q first {d₀} {m = m} {r} z h p f =
     let s : m + (r - m) ≡ r = omega (arith, f.low) in
     let n : leaves_below b q r ≡ leaves_below b q m = rw s at (below_skip b q m (r - m) (λ k l i. f.before k l (omega arith))) in
     record {
-      inside = f.high;
-      here = f.here;
-      next = e ∙ rw n;
-      done = written_skip w (omega (arith, f.low)) (λ k l i. choose_no _ _ (f.before k l i) ∙ sym (rw z (tab_get {A = ℕ} 1024 (λ i. 0) k 0 (omega (arith, f.high)))));
+      next = p.next ∙ rw n;
+      done = written_skip p.done (omega (arith, f.low)) (λ k l i. choose_no _ _ (f.before k l i) ∙ sym (rw z (tab_get {A = ℕ} 1024 (λ i. 0) k 0 (omega (arith, f.high)))));
     }
 
-pub pointing_start : (b : List ℕ) (q first : ℕ) {d : List ℕ} {m : ℕ} → d ≡ tab 1024 (λ i. 0) → First (has_leaf b q) 0 m → Pointing b q first d d first m
-pointing_start b q first {d} z f = skip_to b q first z (omega arith) (rw (leaves_below_none b q) (omega arith)) (written_none _ 0 0 d refl) f
+pub pointing_start : (b : List ℕ) (q first : ℕ) {d : List ℕ} {m : ℕ} → m ≡ 0 → Pointing b q first d d first m
+pointing_start b q first {d} z = record { next = rw (z, leaves_below_none b q) (omega arith); done = rw z (written_none _ 0 0 d refl) }
 
-pub pointing_next : (b : List ℕ) (q first : ℕ) {d₀ d d' : List ℕ} {page page' m r : ℕ} → Pointing b q first d₀ d page m → d₀ ≡ tab 1024 (λ i. 0) → m < 1024
-    → d' ≡ set d m (pointer_entry (page % 0x40_0000)) → page' ≡ page - 1 → First (has_leaf b q) (m + 1) r → Pointing b q first d₀ d' page' r
+pub pointing_next : (b : List ℕ) (q first : ℕ) {d₀ d d' : List ℕ} {page page' m r n : ℕ} → Pointing b q first d₀ d page m → d₀ ≡ tab 1024 (λ i. 0) → m ≤ 1024 → First (has_leaf b q) m r
+    → has_leaf b q r ≡ true → r < 1024 → n ≡ r + 1 → d' ≡ set d r (pointer_entry (page % 0x40_0000)) → page' ≡ page - 1 → Pointing b q first d₀ d' page' n
 unfolding leaf_pointer
-pointing_next b q first {m = m} p z h e ep f = skip_to b q first z (omega arith)
-    (omega (arith, p.next, leaves_below_next b q m, one_yes (p.here h)))
-    (rw e (written_more p.done (m + 1) refl (rw p.next (sym (choose_yes _ _ (p.here h)))) (omega arith)))
-    f
+pointing_next b q first {r = r} p z l f h i en e ep =
+    let at = skip_to b q first z l p f in
+    record {
+      next = rw en (omega (arith, at.next, leaves_below_next b q r, one_yes h));
+      done = rw (en, e) (written_more at.done (r + 1) refl (rw at.next (sym (choose_yes _ _ h))) (omega arith));
+    }
 
-pub pointing_is : (b : List ℕ) (q first : ℕ) {d₀ d : List ℕ} {page m : ℕ} → Pointing b q first d₀ d page m → d₀ ≡ tab 1024 (λ i. 0) → 1024 ≤ m
+pub pointing_is : (b : List ℕ) (q first : ℕ) {d₀ d : List ℕ} {page m : ℕ} → Pointing b q first d₀ d page m → d₀ ≡ tab 1024 (λ i. 0) → m ≤ 1024 → First (has_leaf b q) m 1024
     → d ≡ tab 1024 (leaf_pointer b q first)
-pointing_is b q first {d₀} {d} p z h =
+pointing_is b q first {d₀} {d} p z l f =
     let n : length d₀ ≡ 1024 = ap length z ∙ tab_length 1024 _ in
-    tab_by 1024 _ 0 d (p.done.size ∙ n) (λ k l. p.done.inside k (omega arith) (omega arith) (omega arith))
+    let at = skip_to b q first z l p f in
+    tab_by 1024 _ 0 d (at.done.size ∙ n) (λ k h. at.done.inside k (omega arith) (omega arith) (omega arith))
 
 root_leaf : (b : List ℕ) (xip : ℕ → Bool) (ram : PageRange) (q first kernel m : ℕ) → LeavesAt b xip ram q first kernel → m < 1024
     → leaf_pointer b q first m ≡ choose (has_leaf b q m) (pointer_entry (phys_page b xip ram (leaf_table q m))) absent_entry

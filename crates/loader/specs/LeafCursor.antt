@@ -1,7 +1,6 @@
 -- The leaf tables of a process, one after the other.
 use Rattle.std.specs.Prelude.{◌≡◌, Bool, true, false, List, ℕ, ◌+◌, ◌/◌, ◌≤◌, ◌<◌, min}
 use Rattle.rules.specs.Block.{process_count, sections_of, section_record, last_page_of}
-use Rattle.rules.specs.Order.{has_leaf}
 use Rattle.order_laws.specs.Places.{pages_before, process_pages, section_place}
 use Rattle.accepted.specs.Sections.{Rising}
 
@@ -24,8 +23,3 @@ pub record Passed (b : List ℕ) (xip : ℕ → Bool) (q m j place : ℕ) : Type
   pub inside : j ≤ sections_of b q
   pub below : (k : ℕ) → k < j → last_page_of b (section_record b q k) / 1024 < m
   pub at_place : place ≡ section_place b xip q + pages_before b xip q j
-
--- the first leaf table from root slot m on has slot r; the sections before section j end below it
-pub record LeafFrom (b : List ℕ) (xip : ℕ → Bool) (q m r j place : ℕ) : Type 0 where
-  pub first : First (has_leaf b q) m r
-  pub passed : Passed b xip q r j place

@@ -1,3 +1,5 @@
 pub mod LeafCursor
 pub mod LeafEntries
+pub mod Leaves
+pub mod Planned
 pub mod TablePages

@@ -2,18 +2,15 @@
 ghost use Rattle.std.specs.Prelude.{◌≡◌, ◌+◌, ◌-◌, ◌*◌, ◌≤◌, ◌<◌, length};
 ghost use Rattle.notation.specs.Lists.{tab};
 ghost use Rattle.rules.specs.Block.{entry_point_of};
-ghost use Rattle.rules.specs.Order.{tracker_pages};
 ghost use Rattle.rules.specs.Entries.{satp_of};
-ghost use Rattle.rules.specs.Contents.{stack_pointer, process_list_byte};
-ghost use Rattle.rules.specs.Load.{satp_word};
+ghost use Rattle.rules.specs.Contents.{stack_pointer};
 ghost use Rattle.word_stores.specs.Words.{with_word};
-ghost use Rattle.order_laws.specs.Places.{tracker_place, root_place};
 ghost use Rattle.writing.specs.Pages.{put};
-ghost use Rattle.accepted.specs.Fits.{Fits};
-ghost use Rattle.xip_sections.specs.Marks.{marked};
+ghost use Rattle.loader.specs.Planned.{root_at, left_at_list, list_bytes};
 
+use crate::plan::Plan;
 use page_allocator::{PageAllocator, page_at};
-use types::{PageRange, PhysPage};
+use types::PhysPage;
 
 // The three words of process q, whose root table is the physical page `root`.
 fn put_process(page: &mut [u8], block: &[u8], q: u32, root: PhysPage)
@@ -32,37 +29,27 @@ fn put_process(page: &mut [u8], block: &[u8], q: u32, root: PhysPage)
 
 // The whole list. `first` is the place of the kernel's root table in the order of pages; each root is followed by the leaf
 // tables of its process.
-fn list_processes(page: &mut [u8], block: &[u8], xip: &[u8], range: PageRange, first: u32)
-    requires { Fits block.now (marked xip.now) range × (first ≡ root_place block.now (marked xip.now) (tracker_pages block.now range.pages) 1) × (192 ≤ length page.old) }
-    ensures { page.new ≡ tab (length page.old) (process_list_byte block.now (satp_word block.now (marked xip.now) range)) }
+fn list_processes(page: &mut [u8], plan: &Plan, first: u32)
+    requires { (first ≡ root_at plan.now 1) × (192 ≤ length page.old) }
+    ensures { page.new ≡ tab (length page.old) (list_bytes plan.now) }
 {
     stores::clear(page);
-    let count = block_header::process_count(block);
     let mut place = first;
-    let mut i: u32 = 0;
-    while i < count {
-        let root = page_at(range, place);
-        put_process(page, block, i + 1, root);
-        place += order_leaves::table_count(block, i + 1);
-        i += 1;
+    for i in 0..block_header::process_count(plan.block) {
+        put_process(page, plan.block, i + 1, page_at(plan.range, place));
+        place += order_leaves::table_count(plan.block, i + 1);
     }
 }
 
 // The process list into the next page. The roots come after it and the copy of the block.
-pub(crate) fn load_process_list(
-    ram: &mut [u8],
-    block: &[u8],
-    xip: &[u8],
-    range: PageRange,
-    from: PageAllocator,
-) -> PageAllocator
-    requires { Fits block.now (marked xip.now) range × (from.left ≡ range.pages - (tracker_place block.now (marked xip.now) + tracker_pages block.now range.pages)) × (4096 * from.left ≤ length ram.old) }
-    ensures { (result.left ≡ from.left - 1)
-        × (ram.new ≡ put ram.old (from.left - 1) (process_list_byte block.now (satp_word block.now (marked xip.now) range))) }
+pub(crate) fn load_process_list(ram: &mut [u8], plan: &Plan, from: PageAllocator) -> PageAllocator
+    requires { (from.left ≡ left_at_list plan.now) × (4096 * from.left ≤ length ram.old) }
+    ensures { (result.left ≡ from.left - 1) × (ram.new ≡ put ram.old (from.left - 1) (list_bytes plan.now)) }
 {
     let got = from.allocate();
+    // Lent here: a closure for `fill_page` that captures a plan is not proved.
     let start = got.page.0 as usize * 4096;
     let page = &mut ram[start..start + 4096];
-    list_processes(page, block, xip, range, range.pages - from.left + 2);
+    list_processes(page, plan, plan.range.pages - from.left + 2);
     got.rest
 }

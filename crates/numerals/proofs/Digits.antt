@@ -1,127 +1,79 @@
 -- Digits read one after the other.
-use mathlib.Core.Path.{◌≡◌, refl, sym, ap, ◌∙◌}
-use mathlib.Core.List.{List, [], ◌∷◌}
-use mathlib.Core.Bool.{Bool, true, false}
-use Prim.Native.Nat.{ℕ, suc, ◌+◌, ◌-◌, ◌*◌, ◌≤◌, ◌<◌, min}
-use native.Mathlib.Nat.{mul-le-mul, le_refl, mul-one}
-use native.Mathlib.Numerals.{add-one}
-use native.Mathlib.Decide.{dec_lt}
-use native.Mathlib.Omega.{arith}
-use lib.Dec.{leb}
-use lib.ListN.{length, get_or, drop}
-use lib.Seq.{drop-cons, drop-length}
-use borrow.Author.Tests.{leb-true, lt-ltb, le-ltb}
+use Rattle.std.proofs.Common.{◌≡◌, refl, ◌∙◌, List, [], ◌∷◌, Bool, true, false, not, ℕ, ◌+◌, ◌*◌, ◌≤◌, ◌<◌, leb, ltb, eqb, length, get_or, drop, Err, arith, add-one, drop-cons, Option, Some, None, le-leb, lt-ltb, le-ltb, eqb-true}
+use Rattle.std.specs.Option.{SomeIff, ok_or}
+use Rattle.std.proofs.Math.Decide.{dec_lt}
+use Rattle.std.proofs.Math.ListN.{drop_of_length-le}
+use Rattle.std.proofs.Math.Nat.{mul-le-mul_left}
+use Rattle.std.specs.List.{list_all}
+use Rattle.std.specs.Char.{digit_value}
+use Rattle.std.proofs.lemmas.Bool.Decides.{nat_tests}
+use borrow.Author.Tests.{lt-leb, eqb-false}
+use Rattle.std.proofs.lemmas.List.{nil_from_length}
+use Rattle.notation.specs.Choice.{choose}
 use Rattle.notation.specs.Lists.{some_of}
-use Rattle.laws.specs.Choice.{choose_yes, choose_no, and_left, and_right}
 use Rattle.numerals.specs.Numerals.{between, digit, spelled, value_from, in_base}
-use Rattle.numerals.specs.declared.Number.TheVariants.{Value, TooLarge, NotOne}
+use Rattle.numerals.specs.declared.NumberError.TheVariants.{TooLarge, NotNumber}
 
--- BETWEEN
-pub between_low : (a b c : ℕ) → between a b c ≡ true → a ≤ c
-unfolding between
-between_low a b c e = leb-true a c (and_left (leb a c) (leb c b) e)
+-- DIGIT
+pub digit_small : (c : ℕ) → digit_value c < 16 → digit_value c ≡ digit c
+unfolding digit between choose
+digit_small c h = grind (arith, nat_tests)
 
-pub between_high : (a b c : ℕ) → between a b c ≡ true → c ≤ b
-unfolding between
-between_high a b c e = leb-true c b (and_right (leb a c) (leb c b) e)
+pub digit_none : (c : ℕ) → 16 ≤ digit_value c → 16 ≡ digit c
+unfolding digit between choose
+digit_none c h = grind (arith, nat_tests)
 
--- DIGIT, by the bytes that it may be
-module _ (c : ℕ) where
-  pub digit_decimal : between 48 57 c ≡ true → (c - 48 ≡ digit c) × (c - 48 ≤ 16)
-  unfolding digit
-  digit_decimal d = (sym (choose_yes _ _ d), omega (arith, between_high 48 57 c d))
-
-  pub digit_capital : between 48 57 c ≡ false → between 65 70 c ≡ true → (c - 55 ≡ digit c) × (c - 55 ≤ 16)
-  unfolding digit
-  digit_capital d e = (sym (choose_no _ _ d ∙ choose_yes _ _ e), omega (arith, between_high 65 70 c e))
-
-  pub digit_small : between 48 57 c ≡ false → between 65 70 c ≡ false → between 97 102 c ≡ true → (c - 87 ≡ digit c) × (c - 87 ≤ 16)
-  unfolding digit
-  digit_small d e f = (sym (choose_no _ _ d ∙ choose_no _ _ e ∙ choose_yes _ _ f), omega (arith, between_high 97 102 c f))
-
-  pub digit_none : between 48 57 c ≡ false → between 65 70 c ≡ false → between 97 102 c ≡ false → (16 ≡ digit c) × (16 ≤ 16)
-  unfolding digit
-  digit_none d e f = (sym (choose_no _ _ d ∙ choose_no _ _ e ∙ choose_no _ _ f), le_refl 16)
-
--- SOME-OF, from an index on
-module _ (t : ℕ → Bool) (l : List ℕ) where
-  pub record Searched (i : ℕ) : Type 0 where
-    pub inside : i ≤ length l
-    pub rest : some_of t l ≡ some_of t (drop i l)
-
-  pub searched_none : Searched 0
-  searched_none = record { inside = omega arith; rest = refl }
-
-  pub searched_next : (i : ℕ) → Searched i → i < length l → t (get_or l i 0) ≡ false → Searched (i + 1)
-  unfolding some_of
-  searched_next i p h e = record {
-    inside = omega arith;
-    rest = p.rest ∙ rw (add-one, drop-cons l i 0 h) (choose_no _ _ e);
-  }
-
-  pub searched_here : (i : ℕ) → Searched i → i < length l → t (get_or l i 0) ≡ true → some_of t l ≡ true
-  unfolding some_of
-  searched_here i p h e = p.rest ∙ rw (drop-cons l i 0 h) (choose_yes _ _ e)
-
-  pub searched_all : (i : ℕ) → Searched i → length l ≤ i → some_of t l ≡ false
-  unfolding some_of
-  searched_all i p h = let e : i ≡ length l = omega (arith, p.inside) in p.rest ∙ rw (e, drop-length l)
-
--- VALUE-FROM
--- a number is no smaller for more digits
-value_le : (b v : ℕ) (l : List ℕ) → 1 ≤ b → v ≤ value_from b v l
-unfolding value_from
-value_le b v [] h = le_refl v
-value_le b v (c ∷ l) h =
-    let m : v * 1 ≤ v * b = mul-le-mul {n₁ = v} (le_refl v) h in
-    omega (arith, value_le b (v * b + digit c) l h, mul-one v)
-
--- digits after a number that is cut off at a limit
-value_cut : (b x m : ℕ) (l : List ℕ) → 1 ≤ b → min (value_from b (min x m) l) m ≡ min (value_from b x l) m
-value_cut b x m l h = elim (dec_lt m x) [
-  | yes p ↦ let e : min x m ≡ m = omega arith in rw e (omega (arith, value_le b m l h, value_le b x l h))
-  | no p ↦ let e : min x m ≡ x = omega arith in rw e
+-- SPELLED
+digits_are : (b : ℕ) (t : List ℕ) → list_all (λ c. ltb (digit c) b) t ≡ not (some_of (λ c. leb b (digit c)) t)
+unfolding some_of choose
+digits_are b [] = refl
+digits_are b (c ∷ t) = elim (dec_lt (digit c) b) [
+  | yes h ↦ rw (lt-ltb (digit c) b h, lt-leb b (digit c) h) (digits_are b t)
+  | no h ↦ rw (le-ltb (digit c) b (omega arith), le-leb b (digit c) (omega arith))
 ]
 
--- so far v is the number of the first i digits, cut off
-module _ (b m : ℕ) (l : List ℕ) where
-  pub record Valued (v i : ℕ) : Type 0 where
-    pub inside : i ≤ length l
-    pub small : v ≤ m
-    pub rest : min (value_from b v (drop i l)) m ≡ min (value_from b 0 l) m
+choose_not : (a : Bool) → not a ≡ choose a false true
+unfolding choose
+choose_not true = refl
+choose_not false = refl
 
-  pub valued_none : Valued 0 0
-  valued_none = record { inside = omega arith; small = omega arith; rest = refl }
+pub spelled_some : (b : ℕ) (t : List ℕ) → eqb (length t) 0 ≡ false → list_all (λ c. ltb (digit c) b) t ≡ spelled b t
+unfolding spelled
+spelled_some b t h = digits_are b t ∙ rw (lt-ltb 0 (length t) (omega (arith, eqb-false (length t) 0 h))) (choose_not _)
 
-  pub valued_next : {v w : ℕ} (d i : ℕ) → 1 ≤ b → Valued v i → i < length l → d ≡ digit (get_or l i 0) → w ≡ min (v * b + d) m → Valued w (i + 1)
+pub spelled_none : (b : ℕ) (t : List ℕ) → eqb (length t) 0 ≡ true → false ≡ spelled b t
+unfolding spelled some_of choose
+spelled_none b t h = rw (nil_from_length t (eqb-true (length t) 0 h))
+
+-- VALUE-FROM: a number is no smaller for more digits
+value_le : (b v : ℕ) (l : List ℕ) → 1 ≤ b → v ≤ value_from b v l
+unfolding value_from
+value_le b v [] h = omega arith
+value_le b v (c ∷ l) h = omega (arith, value_le b (v * b + digit c) l h, mul-le-mul_left v h)
+
+-- v is the number of the first i digits
+module _ (b : ℕ) (l : List ℕ) where
+  abbrev pub Valued : ℕ → ℕ → Type 0
+  Valued v i = value_from b v (drop i l) ≡ value_from b 0 l
+
+  pub value_step : (v i d : ℕ) → Valued v i → i < length l → d ≡ digit (get_or l i 0) → Valued (v * b + d) (i + 1)
   unfolding value_from
-  valued_next {v} {w} d i h p q e f =
-      let s : min (value_from b (v * b + d) (drop (suc i) l)) m ≡ min (value_from b v (drop i l)) m = rw (drop-cons l i 0 q, e) in
-      record {
-        inside = omega arith;
-        small = omega arith;
-        rest = rw (f, add-one) (value_cut b (v * b + d) m (drop (suc i) l) h ∙ s ∙ p.rest);
-      }
+  value_step v i d p h e = rw (e, add-one) (rw (drop-cons l i 0 h) at p)
 
-  pub valued_all : {v : ℕ} (i : ℕ) → Valued v i → length l ≤ i → v ≡ min (value_from b 0 l) m
+  -- what is reached next is no larger than the number
+  pub value_next : (v i d : ℕ) → 1 ≤ b → Valued v i → i < length l → d ≡ digit (get_or l i 0) → v * b + d ≤ value_from b 0 l
+  value_next v i d h p k e = omega (arith, value_le b (v * b + d) (drop (i + 1) l) h, value_step v i d p k e)
+
+  pub value_all : (v i : ℕ) → Valued v i → length l ≤ i → v ≡ value_from b 0 l
   unfolding value_from
-  valued_all {v} i p h =
-      let e : i ≡ length l = omega (arith, p.inside) in
-      let r : min v m ≡ min (value_from b 0 l) m = rw (e, drop-length l) at p.rest in
-      omega (arith, p.small)
+  value_all v i p h = rw (drop_of_length-le l {i = i} h) at p
 
 -- IN-BASE
-module _ (b : ℕ) (t : List ℕ) where
-  pub in_base_none : spelled b t ≡ false → NotOne ≡ in_base b t
-  unfolding in_base
-  in_base_none e = sym (choose_no _ _ e)
+pub in_base_none : (b : ℕ) (t : List ℕ) → spelled b t ≡ false → Err NotNumber ≡ in_base b t
+unfolding in_base choose
+in_base_none b t e = rw e
 
-  pub in_base_value : (v : ℕ) → spelled b t ≡ true → v ≡ min (value_from b 0 t) 4294967296 → v < 4294967296 → Value v ≡ in_base b t
-  unfolding in_base
-  in_base_value v e f h =
-      let w : v ≡ value_from b 0 t = omega arith in
-      ap Value w ∙ sym (choose_yes _ _ e ∙ choose_yes _ _ (lt-ltb (value_from b 0 t) 4294967296 (omega arith)))
-
-  pub in_base_large : (v : ℕ) → spelled b t ≡ true → v ≡ min (value_from b 0 t) 4294967296 → 4294967296 ≤ v → TooLarge ≡ in_base b t
-  unfolding in_base
-  in_base_large v e f h = sym (choose_yes _ _ e ∙ choose_no _ _ (le-ltb (value_from b 0 t) 4294967296 (omega arith)))
+pub in_base_value : (b : ℕ) (t : List ℕ) (o : Option ℕ) → spelled b t ≡ true → SomeIff o (value_from b 0 t < 4294967296) (value_from b 0 t) → ok_or o TooLarge ≡ in_base b t
+unfolding in_base choose
+in_base_value b t None e p = rw (e, le-ltb (value_from b 0 t) 4294967296 (omega arith))
+in_base_value b t (Some v) e p = rw (e, lt-ltb (value_from b 0 t) 4294967296 p.0, p.1)

@@ -1,9 +1,9 @@
 -- A number that a text spells.
-use Rattle.std.specs.Prelude.{Bool, false, ◌&&◌, List, [], ◌∷◌, ℕ, ◌+◌, ◌*◌, ◌-◌, eqb, leb, ltb, length, get_or, drop}
+use Rattle.std.specs.Prelude.{Bool, false, ◌&&◌, List, [], ◌∷◌, ℕ, ◌+◌, ◌*◌, ◌-◌, eqb, leb, ltb, length, get_or, drop, Result, Ok, Err}
 use Rattle.notation.specs.Choice.{choose, any}
 use Rattle.notation.specs.Lists.{some_of}
-use Rattle.numerals.specs.declared.Number.{Number}
-use Rattle.numerals.specs.declared.Number.TheVariants.{Value, TooLarge, NotOne}
+use Rattle.numerals.specs.declared.NumberError.{NumberError}
+use Rattle.numerals.specs.declared.NumberError.TheVariants.{TooLarge, NotNumber}
 
 -- c is one of the bytes from a to b
 unfoldable pub between : ℕ → ℕ → ℕ → Bool
@@ -27,15 +27,15 @@ value_from b v [] = v
 value_from b v (c ∷ t) = value_from b (v * b + digit c) t
 
 -- the text as a number in base b
-unfoldable pub in_base : ℕ → List ℕ → Number
+unfoldable pub in_base : ℕ → List ℕ → Result ℕ NumberError
 in_base b t =
     let v = value_from b 0 t in
-    choose (spelled b t) (choose (ltb v 4294967296) (Value v) TooLarge) NotOne
+    choose (spelled b t) (choose (ltb v 4294967296) (Ok v) (Err TooLarge)) (Err NotNumber)
 
 -- it starts with 0x or 0X
 unfoldable pub marked : List ℕ → Bool
 marked t = eqb (get_or t 0 0) 48 && any (eqb (get_or t 1 0) 120 ∷ eqb (get_or t 1 0) 88 ∷ [])
 
 -- hexadecimal after 0x or 0X, else decimal
-unfoldable pub number_of : List ℕ → Number
+unfoldable pub number_of : List ℕ → Result ℕ NumberError
 number_of t = choose (marked t) (in_base 16 (drop 2 t)) (in_base 10 t)

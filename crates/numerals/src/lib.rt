@@ -1,112 +1,68 @@
 // A number that a text spells: the public function answers for any text.
 #![tactic(auto)]
 
-ghost use Rattle.std.specs.Prelude.{◌≡◌, ◌≤◌, min};
-ghost use Rattle.numerals.specs.Numerals.{between, digit, spelled, value_from, in_base, marked, number_of};
+ghost use Rattle.std.specs.Prelude.{◌≡◌, ◌<◌, ◌≤◌, nat_lt, SomeIff};
+ghost use Rattle.std.specs.List.{list_all};
+ghost use Rattle.numerals.specs.Numerals.{digit, spelled, value_from, in_base, number_of};
 
-#[derive(Clone, Copy)]
-pub enum Number {
-    Value(u32),
+#[derive(Clone, Copy, PartialEq, Eq, Debug)]
+pub enum NumberError {
     // A number of 2^32 or more.
     TooLarge,
-    NotOne,
+    NotNumber,
 }
 
-// One more than the largest number of 32 bits.
-const LIMIT: u64 = 0x1_0000_0000;
-
-fn within(c: u8, first: u8, last: u8) -> bool
-    ensures { result ≡ between first last c }
+// A digit's value, 16 for any other byte. (16 and no None: so `digit` of the specs has it, and it is below no base.)
+fn digit_value(c: u8) -> u32
+    ensures value { result ≡ digit c }
+    ensures bound { result ≤ 16 }
 {
-    if c < first {
-        return false;
-    }
-    c <= last
+    char::from(c).to_digit(16).unwrap_or(16)
 }
 
-// A digit's value, 16 for any other byte.
-fn digit_value(c: u8) -> u64
-    ensures { (result ≡ digit c) × (result ≤ 16) }
+// Each byte is a digit in the base.
+fn are_digits(text: &[u8], base: u32) -> bool
+    ensures { result ≡ list_all (λ c. nat_lt (digit c) base) text.now }
 {
-    if within(c, b'0', b'9') {
-        return (c - 48) as u64;
-    }
-    if within(c, b'A', b'F') {
-        return (c - 55) as u64;
-    }
-    if within(c, b'a', b'f') {
-        return (c - 87) as u64;
-    }
-    16
+    text.iter().all(|c| digit_value(*c) < base)
 }
 
 // Each byte is a digit in the base, and there is one.
-fn is_spelled(text: &[u8], base: u64) -> bool
+fn is_spelled(text: &[u8], base: u32) -> bool
     ensures { result ≡ spelled base text.now }
 {
-    let mut i = 0;
-    while i < text.len() {
-        if base <= digit_value(text[i]) {
-            return false;
-        }
-        i += 1;
-    }
-    0 < text.len()
+    !text.is_empty() && are_digits(text, base)
 }
 
-fn at_most(n: u64, most: u64) -> u64
-    ensures { result ≡ min n most }
-{
-    if n < most { n } else { most }
-}
-
-// The number that the text's digits spell in the base, or 2^32 where it is larger.
-fn value(text: &[u8], base: u64) -> u64
+// The number that the text's digits spell in the base, where it is below 2^32.
+fn value(text: &[u8], base: u32) -> Option<u32>
     requires { (1 ≤ base) × (base ≤ 16) }
-    ensures { result ≡ min (value_from base 0 text.now) 4294967296 }
+    ensures { SomeIff result (value_from base 0 text.now < 4294967296) (value_from base 0 text.now) }
 {
-    let mut v: u64 = 0;
-    let mut i = 0;
-    while i < text.len() {
-        v = at_most(v * base + digit_value(text[i]), LIMIT);
-        i += 1;
+    let mut v: u32 = 0;
+    for c in text {
+        v = v.checked_mul(base)?.checked_add(digit_value(*c))?;
     }
-    v
+    Some(v)
 }
 
-fn in_base(text: &[u8], base: u64) -> Number
+fn in_base(text: &[u8], base: u32) -> Result<u32, NumberError>
     requires { (1 ≤ base) × (base ≤ 16) }
     ensures { result ≡ in_base base text.now }
 {
     if !is_spelled(text, base) {
-        return Number::NotOne;
+        return Err(NumberError::NotNumber);
     }
-    let v = value(text, base);
-    if v < LIMIT {
-        return Number::Value(v as u32);
-    }
-    Number::TooLarge
-}
-
-// The text starts with 0x or 0X.
-fn is_marked(text: &[u8]) -> bool
-    ensures { result ≡ marked text.now }
-{
-    if slices::byte(text, 0) != b'0' {
-        return false;
-    }
-    if slices::byte(text, 1) == b'x' {
-        return true;
-    }
-    slices::byte(text, 1) == b'X'
+    value(text, base).ok_or(NumberError::TooLarge)
 }
 
 // The number that all of the text spells, in decimal, or in hexadecimal after 0x or 0X.
-pub fn read_number(text: &[u8]) -> Number
+#[tactic(auto, using(std::proofs::lemmas::List::take_all), unfolding(crate::specs::Numerals::number_of, crate::specs::Numerals::marked, notation::specs::Choice::choices))]
+pub fn read_number(text: &[u8]) -> Result<u32, NumberError>
     ensures { result ≡ number_of text.now }
 {
-    if is_marked(text) {
-        return in_base(slices::tail(text, 2), 16);
+    match text {
+        [b'0', b'x' | b'X', digits @ ..] => in_base(digits, 16),
+        _ => in_base(text, 10),
     }
-    in_base(text, 10)
 }

@@ -5,21 +5,15 @@ ghost use Rattle.std.specs.Prelude.{◌≡◌, length};
 ghost use Rattle.rules.specs.Order.{table_uses};
 ghost use Rattle.order_leaves.specs.TakenSlots.{slot_taken, with_slots, IsTaken};
 
-use numbers::{both, greatest, least, minus};
 use types::{STACK_SLOT, TABLE_ENTRIES};
 
 // One of the k section records from `first` on has a page in root slot m. The last is asked first.
 fn slot_taken(block: &[u8], first: u32, k: u32, m: u32) -> bool
     ensures { result ≡ slot_taken block.now first k m }
 {
-    let mut i = k;
-    while 0 < i {
-        i -= 1;
+    for i in (0..k).rev() {
         let section = block_records::read_section(block, first as usize + i as usize);
-        if both(
-            section.first_page.0 / TABLE_ENTRIES <= m,
-            m <= section.last_page.0 / TABLE_ENTRIES,
-        ) {
+        if section.first_page.0 / TABLE_ENTRIES <= m && m <= section.last_page.0 / TABLE_ENTRIES {
             return true;
         }
     }
@@ -40,19 +34,17 @@ fn take_slots(block: &[u8], first: u32, k: u32, taken: Taken, from: u32, to: u32
     ensures { IsTaken (with_slots from to (slot_taken block.now first k)) result }
 {
     // A section may end past the last root slot.
-    let end = least(to as usize + 1, TABLE_ENTRIES as usize) as u32;
-    let shared = least(taken.end as usize, end as usize) as u32;
+    let end = to.saturating_add(1).min(TABLE_ENTRIES);
+    let shared = taken.end.min(end);
     let mut slots = taken.slots;
-    let mut m = from;
-    while m < shared {
+    for m in from..shared {
         if !slot_taken(block, first, k, m) {
             slots += 1;
         }
-        m += 1;
     }
     Taken {
-        slots: slots + minus(end as usize, m as usize) as u32,
-        end: greatest(taken.end as usize, end as usize) as u32,
+        slots: slots + end.saturating_sub(from.max(shared)),
+        end: taken.end.max(end),
     }
 }
 
@@ -68,8 +60,7 @@ pub fn table_count(block: &[u8], q: u32) -> u32
     let first = process.first_section;
     let sections = process.sections;
     let mut taken = Taken { slots: 0, end: 0 };
-    let mut j: u32 = 0;
-    while j < sections {
+    for j in 0..sections {
         let section = block_records::read_section(block, first as usize + j as usize);
         taken = take_slots(
             block,
@@ -79,7 +70,6 @@ pub fn table_count(block: &[u8], q: u32) -> u32
             section.first_page.0 / TABLE_ENTRIES,
             section.last_page.0 / TABLE_ENTRIES,
         );
-        j += 1;
     }
     let all = take_slots(block, first, sections, taken, STACK_SLOT, STACK_SLOT);
     1 + all.slots

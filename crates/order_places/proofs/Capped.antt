@@ -1,7 +1,5 @@
 -- Laws of capped places.
-use mathlib.Core.Path.{◌≡◌}
-use Prim.Native.Nat.{ℕ, ◌≤◌}
-use native.Mathlib.Omega.{arith}
+use Rattle.std.proofs.Common.{◌≡◌, ℕ, ◌≤◌, arith}
 use Rattle.order_places.specs.Capped.{capped}
 
 -- a place inside RAM is told as it is

@@ -1,8 +1,5 @@
 -- The pages of a process, section by section.
-use mathlib.Core.Path.{◌≡◌, sym, ◌∙◌}
-use mathlib.Core.Bool.{Bool}
-use mathlib.Core.List.{List}
-use Prim.Native.Nat.{ℕ, ◌+◌}
+use Rattle.std.proofs.Common.{◌≡◌, sym, ◌∙◌, Bool, List, ℕ, ◌+◌}
 use Rattle.notation.specs.Choice.{choose}
 use Rattle.rules.specs.Block.{first_section_of, sections_of, section_record, page_count}
 use Rattle.rules.specs.Order.{pages_taken}

@@ -15,15 +15,11 @@ pub fn process_pages(block: &[u8], xip: &[u8], q: u32) -> u64
     ensures { (result ≡ process_pages block.now (marked xip.now) q) × (result ≤ 0x20_0000_0000_0000) }
 {
     let process = block_records::read_process(block, q);
-    let first = process.first_section;
-    let count = process.sections;
     let mut pages: u64 = 0;
-    let mut j: u32 = 0;
-    while j < count {
-        let n = first as usize + j as usize;
+    for j in 0..process.sections {
+        let n = process.first_section as usize + j as usize;
         let section = block_records::read_section(block, n);
-        pages += xip_sections::pages_taken(xip, n, section.pages) as u64;
-        j += 1;
+        pages += u64::from(xip_sections::pages_taken(xip, n, section.pages));
     }
     pages
 }
@@ -33,7 +29,7 @@ fn capped_sum(a: u32, b: u64) -> u32
     requires { b ≤ 0x20_0000_0000_0000 }
     ensures { result ≡ capped (a + b) }
 {
-    numbers::least(a as usize + b as usize, 0x1_0000) as u32
+    (u64::from(a) + b).min(0x1_0000) as u32
 }
 
 // The section pages of processes 2 to n + 1.
@@ -42,10 +38,8 @@ fn user_pages(block: &[u8], xip: &[u8], n: u32) -> u32
     ensures { result ≡ capped (user_pages block.now (marked xip.now) n) }
 {
     let mut pages: u32 = 0;
-    let mut i: u32 = 0;
-    while i < n {
+    for i in 0..n {
         pages = capped_sum(pages, process_pages(block, xip, i + 2));
-        i += 1;
     }
     pages
 }
@@ -55,9 +49,9 @@ fn users_before(block: &[u8], q: u32) -> u32
     ensures { (result ≡ choose (eqb q 1) (process_count block.now - 1) (q - 2)) × (result ≤ 0xFFFF_FFFE) }
 {
     if q == 1 {
-        return numbers::minus(block_header::process_count(block) as usize, 1) as u32;
+        return block_header::process_count(block).saturating_sub(1);
     }
-    numbers::minus(q as usize, 2) as u32
+    q.saturating_sub(2)
 }
 
 // The place of the first section page of process q: the kernel's sections come after those of all user processes.
@@ -65,7 +59,7 @@ pub fn section_place(block: &[u8], xip: &[u8], q: u32) -> u32
     ensures { result ≡ capped (section_place block.now (marked xip.now) q) }
 {
     let users = users_before(block, q);
-    capped_sum(4, user_pages(block, xip, users) as u64)
+    capped_sum(4, u64::from(user_pages(block, xip, users)))
 }
 
 // The place of the first tracker page.
@@ -80,10 +74,8 @@ fn tables_before(block: &[u8], n: u32) -> u32
     ensures { result ≡ capped (tables_before block.now n) }
 {
     let mut tables: u32 = 0;
-    let mut i: u32 = 0;
-    while i < n {
-        tables = capped_sum(tables, order_leaves::table_count(block, i + 1) as u64);
-        i += 1;
+    for i in 0..n {
+        tables = capped_sum(tables, u64::from(order_leaves::table_count(block, i + 1)));
     }
     tables
 }
@@ -96,6 +88,6 @@ pub fn root_place(block: &[u8], xip: &[u8], pages: u32, q: u32) -> u32
         tracker_place(block, xip),
         order_tracker::tracker_pages(block, pages),
     );
-    let before = tables_before(block, numbers::minus(q as usize, 1) as u32);
-    capped_sum(list, 2 + before as u64)
+    let before = tables_before(block, q.saturating_sub(1));
+    capped_sum(list, 2 + u64::from(before))
 }

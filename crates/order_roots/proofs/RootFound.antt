@@ -1,14 +1,9 @@
 -- The root of a process, case by case.
-use mathlib.Core.Path.{◌≡◌, refl, sym, ap, ◌∙◌}
-use mathlib.Core.Logic.{◌≢◌}
-use mathlib.Core.List.{List}
-use mathlib.Core.Bool.{Bool, true, false, ◌&&◌}
+use Rattle.std.proofs.Common.{◌≡◌, refl, sym, ap, ◌∙◌, ◌≢◌, List, Bool, true, false, ◌&&◌, arith, eqb, eq-eqb, ne_eqb, le-leb}
 use Prim.Native.Nat.{ℕ, ◌+◌, ◌-◌, ◌%◌, ◌≤◌, ◌<◌}
-use native.Mathlib.Omega.{arith}
-use lib.Dec.{eqb}
-use borrow.Author.Tests.{eq-eqb, ne_eqb, lt-leb, le-leb}
+use borrow.Author.Tests.{lt-leb}
 use Rattle.notation.specs.Choice.{choose}
-use Rattle.types.specs.declared.Answer.{Answer}
+use Rattle.rules.specs.Answers.{Answer}
 use Rattle.types.specs.declared.Area.{Area}
 use Rattle.types.specs.declared.PageRange.{PageRange}
 use Rattle.rules.specs.Lent.{Image, pages_in}
@@ -25,11 +20,11 @@ use Rattle.accepted.specs.Fits.{Fits, accepted}
 use Rattle.order_places.specs.Capped.{capped}
 use Rattle.order_places.proofs.Capped.{uncapped}
 use Rattle.page_allocator.proofs.PageAt.{page_inside}
-use Rattle.order_roots.specs.declared.Root.{Root}
-use Rattle.order_roots.specs.declared.Root.TheVariants.{Nowhere, At}
+use Rattle.types.specs.declared.PhysPage.{PhysPage}
+use Rattle.std.specs.Prelude.{Option, Some, None}
 use Rattle.order_roots.specs.Roots.{is_process, root_found}
 
-pub root_refused : (x : Image) (ram : Area) (q : ℕ) (a : Answer) → a ≡ answer_on x ram → a.number ≢ 0 → Nowhere ≡ root_found x ram q
+pub root_refused : (x : Image) (ram : Area) (q : ℕ) (a : Answer) → a ≡ answer_on x ram → a.number ≢ 0 → None ≡ root_found x ram q
 unfolding root_found
 root_refused x ram q a e n =
     rw (ne_eqb (verdict x ram).number 0 (λ z. n (ap (λ (a : Answer). a.number) e ∙ answer_number x ram ∙ z))) (sym (choose_no _ _ refl))
@@ -42,18 +37,18 @@ not_above : (b : List ℕ) (q : ℕ) → process_count b < q → is_process b q 
 unfolding is_process
 not_above b q h = rw (le-leb 1 q (omega arith), lt-leb q (process_count b) h)
 
-never : (c : Bool) (x : Root) → choose (c && false) x Nowhere ≡ Nowhere
+never : (c : Bool) (x : Option PhysPage) → choose (c && false) x None ≡ None
 never true x = choose_no _ _ refl
 never false x = choose_no _ _ refl
 
-no_process : (x : Image) (ram : Area) (q : ℕ) → is_process x.block q ≡ false → Nowhere ≡ root_found x ram q
+no_process : (x : Image) (ram : Area) (q : ℕ) → is_process x.block q ≡ false → None ≡ root_found x ram q
 unfolding root_found
 no_process x ram q e = rw e (sym (never (eqb (verdict x ram).number 0) _))
 
-pub root_below : (x : Image) (ram : Area) (q : ℕ) → q ≡ 0 → Nowhere ≡ root_found x ram q
+pub root_below : (x : Image) (ram : Area) (q : ℕ) → q ≡ 0 → None ≡ root_found x ram q
 root_below x ram q e = no_process x ram q (not_below x.block q e)
 
-pub root_above : (x : Image) (ram : Area) (q p : ℕ) → p ≡ process_count x.block → p < q → Nowhere ≡ root_found x ram q
+pub root_above : (x : Image) (ram : Area) (q p : ℕ) → p ≡ process_count x.block → p < q → None ≡ root_found x ram q
 root_above x ram q p e h = no_process x ram q (not_above x.block q (omega arith))
 
 -- the root's place is inside RAM
@@ -64,7 +59,7 @@ root_inside b xip ram q f n h = omega (arith, tables_room b xip ram.pages q f.en
 pub root_at : (x : Image) (ram : Area) (q : ℕ) (a : Answer) (xip : ℕ → Bool) (place P : ℕ) → a ≡ answer_on x ram → a.number ≡ 0 → xip ≡ xip_of x
     → q ≢ 0 → q ≤ process_count x.block → place ≡ capped (root_place x.block xip (tracker_pages x.block (pages_in ram).pages) q)
     → P ≡ ((pages_in ram).base + ((pages_in ram).pages - 1 - place)) % 0x1_0000_0000
-    → At (record { 0 = P }) ≡ root_found x ram q
+    → Some (record { 0 = P }) ≡ root_found x ram q
 unfolding root_found is_process phys_page
 root_at x ram q a xip place P e z right n h ep eP =
     let b : List ℕ = x.block in

@@ -10,11 +10,9 @@ pub fn io_pages_of(block: &[u8], n: u32) -> u64
     ensures { (result ≡ io_pages_of block.now n) × (result ≤ 4294967295 * n) }
 {
     let mut sum: u64 = 0;
-    let mut i: u32 = 0;
-    while i < n {
+    for i in 0..n {
         let region = block_records::read_region(block, i);
-        sum += region.pages as u64;
-        i += 1;
+        sum += u64::from(region.pages);
     }
     sum
 }
@@ -23,5 +21,6 @@ pub fn io_pages_of(block: &[u8], n: u32) -> u64
 pub fn tracker_pages(block: &[u8], pages: u32) -> u64
     ensures { (result ≡ tracker_pages block.now pages) × (result ≤ 0x10_0000_0000_0000) }
 {
-    (pages as u64 + io_pages_of(block, block_header::region_count(block)) + 4095) / 4096
+    let io_pages = io_pages_of(block, block_header::region_count(block));
+    (u64::from(pages) + io_pages).div_ceil(4096)
 }

@@ -1,7 +1,5 @@
 -- The page at a place.
-use mathlib.Core.Path.{◌≡◌}
-use Prim.Native.Nat.{ℕ, ◌+◌, ◌-◌, ◌%◌, ◌≤◌}
-use native.Mathlib.Omega.{arith}
+use Rattle.std.proofs.Common.{◌≡◌, ℕ, ◌+◌, ◌-◌, ◌%◌, ◌≤◌, arith}
 use Rattle.types.specs.declared.PageRange.{PageRange}
 
 -- where RAM ends within 32 bits it is told as it is

@@ -1,16 +1,14 @@
 -- Laws of searches in a list and of its pieces.
-use mathlib.Core.Path.{◌≡◌, refl, sym, ap, ◌∙◌}
-use mathlib.Core.List.{List, [], ◌∷◌}
-use mathlib.Core.Bool.{Bool, true, false}
-use Prim.Native.Nat.{ℕ, suc, ◌+◌, ◌≤◌, ◌<◌}
-use native.Mathlib.Nat.{not-suc-le-zero, zero-add, le_refl}
-use native.Mathlib.Numerals.{add-one}
-use native.Mathlib.Omega.{arith}
-use lib.ListN.{length, get_or, take, drop, length-drop}
-use lib.Seq.{drop-cons, drop-length}
+use Rattle.std.proofs.Common.{◌≡◌, refl, sym, ap, ◌∙◌, List, [], ◌∷◌, ◌++◌, Bool, true, false, not, cond, ◌⊎◌, inl, inr, ℕ, suc, ◌+◌, ◌≤◌, ◌<◌, eqb, length, get_or, take, drop, ltb, slice_get, Option, Some, None, Bor, arith, ne_eqb}
+use Rattle.std.specs.Option.{option_map, unwrap_or}
+use Rattle.std.proofs.lemmas.Bool.{ltb-false}
+use Rattle.std.proofs.lemmas.Option.{unwrap_or-slice_get}
+use Rattle.std.proofs.lemmas.List.{take_all}
+use Rattle.std.specs.List.{filter, position_or_len, position, slice_split, onto_first}
+use Rattle.notation.specs.Choice.{choose}
 use Rattle.notation.specs.Lists.{count_before}
 use Rattle.laws.specs.Choice.{by_test, by_choose, choose_yes, choose_no}
-use Rattle.record_fields.specs.Fields.{on_first, pieces}
+use Rattle.record_fields.specs.Fields.{before, on_first, pieces, non_empty}
 
 module _ {A : Type 0} where
   -- COUNT BEFORE
@@ -27,48 +25,31 @@ module _ {A : Type 0} where
   count_before_there t x l e = choose_no 0 _ e
 
   pub count_before_le : (t : A → Bool) (l : List A) → count_before t l ≤ length l
-  count_before_le t [] = rw count_before_nil (le_refl 0)
+  count_before_le t [] = rw count_before_nil (omega arith)
   count_before_le t (x ∷ l) = by_test (λ c. t x ≡ c → count_before t (x ∷ l) ≤ suc (length l)) (t x)
       (λ e h. omega (arith, count_before_here t x l h))
       (λ e h. omega (arith, count_before_there t x l h, count_before_le t l)) refl
 
-  -- counted from an index on
-  pub count_before_tail : (t : A → Bool) (l m : List A) (at n : ℕ) → m ≡ drop at l → at ≤ length l → n ≡ count_before t m
-      → (at + n ≡ at + count_before t (drop at l)) × (at + n ≤ length l)
-  count_before_tail t l m at n e h c =
-      let f : n ≡ count_before t (drop at l) = c ∙ rw e in
-      (ap (λ (k : ℕ). at + k) f, omega (arith, count_before_le t (drop at l), length-drop at l))
+  -- it is std's place of the first that passes
+  pub count_before_is : (t : A → Bool) (l : List A) → position_or_len t l ≡ count_before t l
+  unfolding count_before choose
+  count_before_is t [] = refl
+  count_before_is t (x ∷ l) = by_test (λ c. cond (not c) (1 + position_or_len t l) 0 ≡ choose c 0 (suc (count_before t l))) (t x)
+      (λ e. refl)
+      (λ e. omega (arith, count_before_is t l))
 
-  -- the element that it stops at passes
-  pub count_before_passes : (t : A → Bool) (l : List A) (d : A) → count_before t l < length l → t (get_or l (count_before t l) d) ≡ true
-  count_before_passes t [] d h = absurd (not-suc-le-zero (rw count_before_nil at h))
-  count_before_passes t (x ∷ l) d h = by_test (λ c. t x ≡ c → t (get_or (x ∷ l) (count_before t (x ∷ l)) d) ≡ true) (t x)
-      (λ e f. rw (count_before_here t x l f) f)
-      (λ e f. rw (count_before_there t x l f) (count_before_passes t l d (omega (arith, count_before_there t x l f)))) refl
+  -- BEFORE, by std's answer
+  pub before_some : (t : A → Bool) (l : List A) (n : ℕ) → position t l ≡ Some n → take n l ≡ before t l
+  unfolding before
+  before_some t l n e = by_test (λ c. cond c (Some (position_or_len t l)) None ≡ Some n → take n l ≡ take (count_before t l) l) (ltb (position_or_len t l) (length l))
+      (λ _ h. let m : n ≡ position_or_len t l = cc in rw (m, count_before_is))
+      (λ _ h. absurd (cc)) e
 
-  -- SO FAR: none of the first i elements passes
-  pub record Passed (t : A → Bool) (l : List A) (i : ℕ) : Type 0 where
-    pub inside : i ≤ length l
-    pub rest : count_before t l ≡ i + count_before t (drop i l)
-
-  pub passed_none : (t : A → Bool) (l : List A) → Passed t l 0
-  passed_none t l = record { inside = omega arith; rest = sym (zero-add (count_before t l)) }
-
-  pub passed_next : {t : A → Bool} {l : List A} {i : ℕ} (d : A) → Passed t l i → i < length l → t (get_or l i d) ≡ false → Passed t l (i + 1)
-  passed_next {t} {l} {i} d p h e =
-      let n : count_before t (drop i l) ≡ suc (count_before t (drop (suc i) l)) = rw (drop-cons l i d h) (count_before_there t (get_or l i d) _ e) in
-      record { inside = omega arith; rest = rw add-one (omega (arith, p.rest)) }
-
-  pub passed_here : {t : A → Bool} {l : List A} {i : ℕ} (d : A) → Passed t l i → i < length l → t (get_or l i d) ≡ true → count_before t l ≡ i
-  passed_here {t} {l} {i} d p h e =
-      let n : count_before t (drop i l) ≡ 0 = rw (drop-cons l i d h) (count_before_here t (get_or l i d) _ e) in
-      omega (arith, p.rest)
-
-  pub passed_all : {t : A → Bool} {l : List A} {i : ℕ} → Passed t l i → length l ≤ i → count_before t l ≡ i
-  passed_all {t} {l} {i} p h =
-      let e : i ≡ length l = omega (arith, p.inside) in
-      let n : count_before t (drop i l) ≡ 0 = rw (e, drop-length l) (count_before_nil t) in
-      omega (arith, p.rest)
+  pub before_none : (t : A → Bool) (l : List A) → position t l ≡ None → l ≡ before t l
+  unfolding before
+  before_none t l e = by_test (λ c. ltb (position_or_len t l) (length l) ≡ c → cond c (Some (position_or_len t l)) None ≡ None → l ≡ take (count_before t l) l) (ltb (position_or_len t l) (length l))
+      (λ _ _ h. absurd (cc))
+      (λ _ f h. sym (take_all (count_before t l) l (omega (arith, count_before_is t l, ltb-false (position_or_len t l) (length l) f)))) refl e
 
   -- PIECES
   pieces_first : (t : A → Bool) (x : A) (l : List A)
@@ -81,7 +62,7 @@ module _ {A : Type 0} where
   -- the first piece, and those after what ends it
   pub pieces_cons : (t : A → Bool) (l : List A) → 0 < length l → pieces t l ≡ take (count_before t l) l ∷ pieces t (drop (suc (count_before t l)) l)
   unfolding pieces
-  pieces_cons t [] h = absurd (not-suc-le-zero h)
+  pieces_cons t [] h = absurd (omega arith)
   pieces_cons t (x ∷ l) h = by_test (λ c. t x ≡ c → pieces t (x ∷ l) ≡ take (count_before t (x ∷ l)) (x ∷ l) ∷ pieces t (drop (suc (count_before t (x ∷ l))) (x ∷ l))) (t x)
       (λ e f. choose_yes _ _ f ∙ rw (count_before_here t x l f))
       (λ e f. choose_no _ _ f ∙ rw (count_before_there t x l f) (pieces_first t x l (pieces_cons t l))) refl
@@ -98,3 +79,59 @@ module _ {A : Type 0} where
   pieces_length t (x ∷ l) = by_choose (λ (ps : List (List A)). length ps ≤ suc (length l)) (t x) ([] ∷ pieces t l) (on_first x (pieces t l))
       (λ e. omega (arith, pieces_length t l))
       (λ e. omega (arith, pieces_length t l, on_first_length x (pieces t l)))
+
+  -- SPLIT: std's parts are the pieces, and at the end there may be one more of no elements
+  abbrev pub Parts : List (List A) → List (List A) → Type 0
+  Parts qs ps = (qs ≡ ps) ⊎ (qs ≡ ps ++ ([] ∷ []))
+
+  parts_gap : (qs ps : List (List A)) → Parts qs ps → Parts ([] ∷ qs) ([] ∷ ps)
+  parts_gap qs ps (inl e) = inl (ap (λ (l : List (List A)). [] ∷ l) e)
+  parts_gap qs ps (inr e) = inr (ap (λ (l : List (List A)). [] ∷ l) e)
+
+  onto_is : (x : A) (ps : List (List A)) → onto_first x ps ≡ on_first x ps
+  unfolding on_first
+  onto_is x [] = refl
+  onto_is x (p ∷ ps) = refl
+
+  parts_first : (x : A) (qs ps : List (List A)) → Parts qs ps → Parts (onto_first x qs) (on_first x ps)
+  unfolding on_first
+  parts_first x qs ps (inl e) = inl (rw e (onto_is x ps))
+  parts_first x qs [] (inr e) = inl (rw e)
+  parts_first x qs (p ∷ ps) (inr e) = inr (rw e)
+
+  pub parts_are : (t : A → Bool) (l : List A) → Parts (slice_split t l) (pieces t l)
+  unfolding pieces choose
+  parts_are t [] = inr refl
+  parts_are t (x ∷ l) = by_test (λ c. Parts (cond c ([] ∷ slice_split t l) (onto_first x (slice_split t l))) (choose c ([] ∷ pieces t l) (on_first x (pieces t l)))) (t x)
+      (λ e. parts_gap _ _ (parts_are t l))
+      (λ e. parts_first x _ _ (parts_are t l))
+
+  -- NON-EMPTY
+  abbrev pub has_elements : List A → Bool
+  has_elements p = not (eqb (length p) 0)
+
+  non_empty_is : (ps : List (List A)) → filter has_elements ps ≡ non_empty ps
+  unfolding non_empty
+  non_empty_is [] = refl
+  non_empty_is ([] ∷ ps) = non_empty_is ps
+  non_empty_is ((x ∷ p) ∷ ps) = rw (suc_not_zero (length p)) (ap (λ (l : List (List A)). (x ∷ p) ∷ l) (non_empty_is ps))
+    where
+      suc_not_zero : (n : ℕ) → eqb (suc n) 0 ≡ false
+      suc_not_zero n = ne_eqb (suc n) 0 (omega arith)
+
+  non_empty_end : (ps : List (List A)) → non_empty (ps ++ ([] ∷ [])) ≡ non_empty ps
+  unfolding non_empty
+  non_empty_end [] = refl
+  non_empty_end ([] ∷ ps) = non_empty_end ps
+  non_empty_end ((x ∷ p) ∷ ps) = ap (λ (l : List (List A)). (x ∷ p) ∷ l) (non_empty_end ps)
+
+  pub parts_non_empty : (t : A → Bool) (l : List A) → filter has_elements (slice_split t l) ≡ non_empty (pieces t l)
+  parts_non_empty t l = non_empty_is (slice_split t l) ∙ elim (parts_are t l) [
+    | inl e ↦ rw e
+    | inr e ↦ rw e (non_empty_end (pieces t l))
+  ]
+
+-- what stands behind a reference that std answers, and no bytes where it answers none
+pub now_or : (r : Option (Bor (List ℕ))) (d : Bor (List ℕ)) (f : List (List ℕ)) (n : ℕ) → d.now ≡ [] → option_map (λ x. x.now) r ≡ slice_get f n → (unwrap_or r d).now ≡ get_or f n []
+now_or None d f n z e = z ∙ rw (← e) at (unwrap_or-slice_get f n [])
+now_or (Some x) d f n z e = rw (← e) at (unwrap_or-slice_get f n [])

@@ -1,124 +1,120 @@
 -- Words and numbers of a line.
-use mathlib.Core.Path.{◌≡◌, refl, sym, ap, ◌∙◌}
-use mathlib.Core.Logic.{◌≢◌}
-use mathlib.Core.List.{List, [], ◌∷◌}
-use mathlib.Core.Bool.{Bool, true, false, ◌&&◌}
-use Prim.Native.Nat.{ℕ, suc, ◌+◌, ◌-◌, ◌≤◌, ◌<◌}
-use native.Mathlib.Numerals.{add-one}
-use native.Mathlib.Omega.{arith}
-use lib.Dec.{eqb}
-use lib.ListN.{length, get_or, drop, length-drop}
-use lib.Seq.{drop-cons, drop-length, get_or-drop}
-use borrow.Author.Tests.{eq-eqb, ne_eqb, lt-ltb, le-ltb}
+use Rattle.std.proofs.Common.{◌≡◌, ◌≢◌, refl, sym, ap, ◌∙◌, List, [], ◌∷◌, Bool, true, false, ℕ, ◌+◌, ◌-◌, ◌≤◌, ◌<◌, eqb, ltb, length, get_or, set, drop, Option, Some, None, Result, Ok, Err, below_more, replicate, length-set, get_or-set_same, get_or-set_other, get_or-drop, length-drop, arith, eq-eqb, ne_eqb, lt-ltb, le-ltb}
+use Rattle.std.specs.Cmp.Lexicographic.{pointwise}
+use Rattle.std.specs.Result.{result_map_both}
+use Rattle.std.proofs.lemmas.List.{length-replicate}
+use Rattle.std.proofs.lemmas.List.Sums.{position_or_len_is}
 use Rattle.notation.specs.Choice.{choose}
-use Rattle.laws.specs.Choice.{choose_yes, choose_no, and_not_left}
+use Rattle.notation.specs.Lists.{tab}
+use Rattle.laws.specs.Choice.{choose_yes, choose_no, choose_map}
+use Rattle.laws.specs.Lists.{tab_by}
 use Rattle.numerals.specs.Numerals.{number_of}
-use Rattle.record_fields.proofs.Pieces.{Passed, passed_none, passed_next, passed_here, passed_all}
-use Rattle.record_lines.specs.Lines.{same, word_of, numbers_after, unread, value_at, first_unread, fault_at, record_of, numbered, said_by}
-use Rattle.record_lines.specs.declared.Word.{Word}
-use Rattle.record_lines.specs.declared.Line.TheVariants.{Empty, UnknownWord, WrongCount}
+use Rattle.numerals.specs.declared.NumberError.{NumberError}
+use Rattle.record_fields.proofs.Pieces.{count_before_is}
+use Rattle.record_lines.specs.Lines.{same, word_of, numbers_after, unread, value_at, first_unread, fault_at, numbers_of, numbered, said_after, said_by}
+use Rattle.record_lines.specs.declared.Kind.{Kind}
+use Rattle.record_lines.specs.declared.Kind.TheVariants as kind
+use Rattle.record_lines.specs.declared.Record.{Record}
+use Rattle.record_lines.specs.declared.Record.TheVariants.{Process, Section, Region}
+use Rattle.record_lines.specs.declared.Fault.{Fault}
+use Rattle.record_lines.specs.declared.Fault.TheVariants.{UnknownWord, WrongCount}
 
--- SAME: lists of one length, from an index on
-same_length_no : (s t : List ℕ) → length s ≢ length t → same s t ≡ false
+pub same_is : (s t : List ℕ) → pointwise eqb s t ≡ same s t
 unfolding same
-same_length_no [] [] h = absurd (h refl)
-same_length_no [] (b ∷ t) h = refl
-same_length_no (a ∷ s) [] h = refl
-same_length_no (a ∷ s) (b ∷ t) h = rw (same_length_no s t (λ e. h (ap suc e))) (and_none (eqb a b))
-  where
-    and_none : (c : Bool) → (c && false) ≡ false
-    and_none true = refl
-    and_none false = refl
+same_is [] [] = refl
+same_is [] (b ∷ t) = refl
+same_is (a ∷ s) [] = refl
+same_is (a ∷ s) (b ∷ t) = rw (same_is s t)
 
-pub same_other_length : (s t : List ℕ) → length s ≢ length t → false ≡ same s t
-same_other_length s t h = sym (same_length_no s t h)
+-- a comparison with a word
+pub same_as : (t w s : List ℕ) (b r : Bool) → s ≡ w → b ≡ pointwise eqb t s → b ≡ r → same t w ≡ r
+same_as t w s b r e h g = rw (← g, h, e) (sym (same_is t w))
 
-module _ (s t : List ℕ) where
-  pub record Matched (i : ℕ) : Type 0 where
-    pub inside : i ≤ length s
-    pub rest : same s t ≡ same (drop i s) (drop i t)
+-- NUMBERS
+abbrev pub number_at : List (List ℕ) → ℕ → Result ℕ NumberError
+number_at f k = number_of (get_or f k [])
 
-  pub matched_none : Matched 0
-  matched_none = record { inside = omega arith; rest = refl }
+-- of n numbers the first k are read
+pub record Numbers (f : List (List ℕ)) (n : ℕ) (ns : List ℕ) (k : ℕ) : Type 0 where
+  pub size : length ns ≡ n
+  pub read : (i : ℕ) → i < k → unread (number_at f (i + 1)) ≡ false
+  pub values : (i : ℕ) → i < k → get_or ns i 0 ≡ value_at f (i + 1)
 
-  module _ (i : ℕ) (p : Matched i) (h : i < length s) (l : length s ≡ length t) where
-    rest_of : same s t ≡ (eqb (get_or s i 0) (get_or t i 0) && same (drop (suc i) s) (drop (suc i) t))
-    unfolding same
-    rest_of = p.rest ∙ rw (drop-cons s i 0 h, drop-cons t i 0 (omega arith))
+pub numbers_none : (f : List (List ℕ)) (n : ℕ) → Numbers f n (replicate n 0) 0
+numbers_none f n = record { size = length-replicate n 0; read = λ i h. absurd (omega arith); values = λ i h. absurd (omega arith) }
 
-    pub matched_next : get_or s i 0 ≡ get_or t i 0 → Matched (i + 1)
-    matched_next e = record { inside = omega arith; rest = rest_of ∙ rw (eq-eqb _ _ e, add-one) }
+pub numbers_next : (f : List (List ℕ)) (n : ℕ) (ns : List ℕ) (k v : ℕ) → Numbers f n ns k → k < n → number_at f (k + 1) ≡ Ok v → Numbers f n (set ns k v) (k + 1)
+unfolding value_at
+numbers_next f n ns k v p h e =
+    let l : k < length ns = omega (arith, p.size) in
+    record {
+      size = length-set ns k v ∙ p.size;
+      read = below_more _ _ p.read (rw e);
+      values = below_more _ _
+          (λ i l. let ne : i ≢ k = omega arith in rw get_or-set_other (p.values i l))
+          (rw (get_or-set_same, e));
+    }
 
-    pub matched_not : get_or s i 0 ≢ get_or t i 0 → false ≡ same s t
-    matched_not e = sym (rest_of ∙ and_not_left _ (ne_eqb _ _ e))
+first_is : (f : List (List ℕ)) (k : ℕ) → k + 1 ≤ length f → ((i : ℕ) → i < k → unread (number_at f (i + 1)) ≡ false)
+    → (k + 1 < length f → unread (number_at f (k + 1)) ≡ true) → first_unread f ≡ k + 1
+unfolding first_unread
+first_is f k h none one =
+    let t = λ (x : List ℕ). unread (number_of x) in
+    let n : length (drop 1 f) + 1 ≡ length f = omega (arith, length-drop 1 f) in
+    omega (
+      arith,
+      count_before_is t (drop 1 f),
+      position_or_len_is t (drop 1 f) k [] (omega arith)
+          (λ i l. let e : 1 + i ≡ i + 1 = omega arith in rw (get_or-drop, e) (none i l))
+          (λ l. let e : 1 + k ≡ k + 1 = omega arith in rw (get_or-drop, e) (one (omega arith))),
+    )
 
-  pub matched_all : (i : ℕ) → Matched i → length s ≡ length t → length s ≤ i → true ≡ same s t
-  unfolding same
-  matched_all i p l h =
-      let e : i ≡ length s = omega (arith, p.inside) in
-      sym (p.rest ∙ rw (e, drop-length s, l, drop-length t))
+pub numbers_count : (n m : ℕ) (f : List (List ℕ)) → m ≡ length f → m ≢ 1 + n → Err (WrongCount n (m - 1)) ≡ numbers_of n f
+unfolding numbers_of
+numbers_count n m f e h = rw e (sym (choose_no _ _ (ne_eqb _ _ (λ z. h (e ∙ z)))))
 
--- FIRST-UNREAD
-module _ (f : List (List ℕ)) where
-  -- no field from 1 up to k is unread
-  pub record AllRead (k : ℕ) : Type 0 where
-    pub first : 1 ≤ k
-    pub last : k ≤ length f
-    pub so_far : Passed (λ t. unread (number_of t)) (drop 1 f) (k - 1)
+module _ (n m k : ℕ) (f : List (List ℕ)) (ns : List ℕ) (c : m ≡ length f) (e : m ≡ 1 + n) (p : Numbers f n ns k) where
+  pub numbers_fault : k < n → unread (number_at f (k + 1)) ≡ true → Err (fault_at (k + 1) (number_at f (k + 1))) ≡ numbers_of n f
+  unfolding numbers_of
+  numbers_fault h u =
+      let i : first_unread f ≡ k + 1 = first_is f k (omega arith) p.read (λ _. u) in
+      sym (choose_yes _ _ (eq-eqb _ _ (sym c ∙ e)) ∙ rw i (choose_yes _ _ (lt-ltb (k + 1) (length f) (omega arith))))
 
-  pub all_read_none : 1 ≤ length f → AllRead 1
-  all_read_none h = record { first = omega arith; last = h; so_far = passed_none _ _ }
+  pub numbers_all : n ≤ k → Ok ns ≡ numbers_of n f
+  unfolding numbers_of
+  numbers_all h =
+      let i : first_unread f ≡ n + 1 = first_is f n (omega arith) (λ j l. p.read j (omega arith)) (λ l. absurd (omega arith)) in
+      let v : ns ≡ tab n (λ i. value_at f (1 + i)) = tab_by n (λ i. value_at f (1 + i)) 0 ns p.size (λ j l. let o : 1 + j ≡ j + 1 = omega arith in rw o (p.values j (omega arith))) in
+      let no : ltb (first_unread f) (length f) ≡ false = rw i (le-ltb (n + 1) (length f) (omega arith)) in
+      rw v (sym (choose_yes _ _ (eq-eqb _ _ (sym c ∙ e)) ∙ choose_no _ _ no))
 
-  module _ (k : ℕ) (p : AllRead k) (h : k < length f) (t : List ℕ) (e : t ≡ get_or f k []) where
-    in_rest : k - 1 < length (drop 1 f)
-    in_rest = omega (arith, p.first, length-drop 1 f)
+-- LINES, by the numbers after the word
+abbrev pub made : Kind → List ℕ → Record
+made kind.Process ns = Process ns
+made kind.Section ns = Section ns
+made kind.Region ns = Region ns
 
-    field_is : t ≡ get_or (drop 1 f) (k - 1) []
-    field_is = let i : 1 + (k - 1) ≡ k = omega (arith, p.first) in e ∙ sym (get_or-drop 1 f (k - 1) [] ∙ rw i)
+abbrev pub to_line : Kind → Result (List ℕ) Fault → Result (Option Record) Fault
+to_line w r = result_map_both (λ ns. Some (made w ns)) (λ e. e) r
 
-    pub all_read_next : unread (number_of t) ≡ false → AllRead (k + 1)
-    all_read_next u =
-        let i : k - 1 + 1 ≡ k + 1 - 1 = omega (arith, p.first) in
-        record {
-          first = omega arith;
-          last = omega arith;
-          so_far = rw i at (passed_next [] p.so_far in_rest (rw field_is at u));
-        }
+pub said_is : (w : Kind) (f : List (List ℕ)) → to_line w (numbers_of (numbers_after w) f) ≡ said_after (Some w) f
+unfolding numbers_of numbered tab
+said_is kind.Process f = choose_map (to_line kind.Process) _ _ _ ∙ ap (λ (l : Result (Option Record) Fault). choose (eqb (length f) 5) l (Err (WrongCount 4 (length f - 1)))) (choose_map (to_line kind.Process) _ _ _)
+said_is kind.Section f = choose_map (to_line kind.Section) _ _ _ ∙ ap (λ (l : Result (Option Record) Fault). choose (eqb (length f) 5) l (Err (WrongCount 4 (length f - 1)))) (choose_map (to_line kind.Section) _ _ _)
+said_is kind.Region f = choose_map (to_line kind.Region) _ _ _ ∙ ap (λ (l : Result (Option Record) Fault). choose (eqb (length f) 3) l (Err (WrongCount 2 (length f - 1)))) (choose_map (to_line kind.Region) _ _ _)
 
-    pub all_read_not : unread (number_of t) ≡ true → k ≡ first_unread f
-    unfolding first_unread
-    all_read_not u = omega (arith, passed_here [] p.so_far in_rest (rw field_is at u), p.first)
-
-  pub all_read_end : (k : ℕ) → AllRead k → length f ≤ k → k ≡ first_unread f
-  unfolding first_unread
-  all_read_end k p h = omega (arith, passed_all p.so_far (omega (arith, length-drop 1 f)), p.first)
-
--- NUMBERED
-module _ (w : Word) (f : List (List ℕ)) (k : ℕ) (e : k ≡ first_unread f) where
-  pub numbered_fault : k < length f → fault_at k (number_of (get_or f k [])) ≡ numbered w f
-  unfolding numbered
-  numbered_fault h = sym (rw (← e) (choose_yes _ _ (lt-ltb k (length f) h)))
-
-  pub numbered_record : length f ≤ k → record_of w (value_at f 1) (value_at f 2) (value_at f 3) (value_at f 4) ≡ numbered w f
-  unfolding numbered
-  numbered_record h = sym (rw (← e) (choose_no _ _ (le-ltb k (length f) h)))
-
--- SAID-BY
-module _ (f : List (List ℕ)) (m : ℕ) (c : m ≡ length f) where
-  pub said_empty : m ≡ 0 → Empty ≡ said_by f
+module _ (f : List (List ℕ)) (m : ℕ) (e : m ≡ length f) where
+  pub said_empty : m ≡ 0 → Ok None ≡ said_by f
   unfolding said_by
-  said_empty z = sym (choose_yes _ _ (eq-eqb _ _ (sym c ∙ z)))
+  said_empty z = sym (choose_yes _ _ (eq-eqb _ _ (sym e ∙ z)))
 
-  module _ (some : m ≢ 0) (w : Word) (e : w ≡ word_of (get_or f 0 [])) (n : ℕ) (a : n ≡ numbers_after w) where
-    said_some : said_by f ≡ choose (eqb n 0) UnknownWord (choose (eqb m (1 + n)) (numbered w f) (WrongCount n (m - 1)))
+  module _ (h : m ≢ 0) where
+    said_some : said_after (word_of (get_or f 0 [])) f ≡ said_by f
     unfolding said_by
-    said_some = choose_no _ _ (ne_eqb _ _ (λ z. some (c ∙ z))) ∙ rw (a, e, c)
+    said_some = sym (choose_no _ _ (ne_eqb _ _ (λ z. h (e ∙ z))))
 
-    pub said_unknown : n ≡ 0 → UnknownWord ≡ said_by f
-    said_unknown z = sym (said_some ∙ choose_yes _ _ (eq-eqb _ _ z))
+    pub said_unknown : None ≡ word_of (get_or f 0 []) → Err UnknownWord ≡ said_by f
+    said_unknown w = rw (← w) at said_some
 
-    pub said_count : n ≢ 0 → m ≢ 1 + n → WrongCount n (m - 1) ≡ said_by f
-    said_count z h = sym (said_some ∙ choose_no _ _ (ne_eqb _ _ z) ∙ choose_no _ _ (ne_eqb _ _ h))
-
-    pub said_numbered : n ≢ 0 → m ≡ 1 + n → numbered w f ≡ said_by f
-    said_numbered z h = sym (said_some ∙ choose_no _ _ (ne_eqb _ _ z) ∙ choose_yes _ _ (eq-eqb _ _ h))
+    pub said_numbers : (w : Kind) (r : Result (List ℕ) Fault) → Some w ≡ word_of (get_or f 0 []) → r ≡ numbers_of (numbers_after w) f → to_line w r ≡ said_by f
+    said_numbers w r s n = ap (to_line w) n ∙ said_is w f ∙ rw (← s) at said_some

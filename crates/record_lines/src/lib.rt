@@ -1,32 +1,36 @@
 // What a line of records says.
 #![tactic(auto)]
 
-ghost use Rattle.std.specs.Prelude.{◌≡◌, ◌≤◌, length};
+ghost use Rattle.std.specs.Prelude.{◌≡◌, true, [], ◌≤◌, length, get_or, Ok, Err, MatchResult};
+ghost use Rattle.numerals.specs.Numerals.{number_of};
 ghost use Rattle.record_fields.specs.Fields.{fields};
-ghost use Rattle.record_lines.specs.Lines.{same, word_of, numbers_after, unread, value_of, value_at, first_unread, fault_at, record_of, numbered, line_of, faulty};
+ghost use Rattle.record_lines.specs.Lines.{word_of, unread, fault_at, numbers_of, line_of};
 
-use numerals::Number;
+use numerals::NumberError;
 
-// The first field of a line.
-#[derive(Clone, Copy)]
-pub enum Word {
+// The kind of a record, which is the first field of its line.
+#[derive(Clone, Copy, PartialEq, Eq, Debug)]
+pub enum Kind {
     Process,
     Section,
     Region,
-    Other,
 }
 
-// A line is empty, or a record with its words, or at fault.
-#[derive(Clone, Copy)]
-pub enum Line {
-    Empty,
+// A record, by its words.
+#[derive(Clone, Copy, PartialEq, Eq, Debug)]
+pub enum Record {
     // Entry point, first section, section count, kind word.
-    Process(u32, u32, u32, u32),
+    Process([u32; 4]),
     // Virtual address, size, flash offset, flags.
-    Section(u32, u32, u32, u32),
+    Section([u32; 4]),
     // Start, pages.
-    Region(u32, u32),
-    // The first field is none of the three words.
+    Region([u32; 2]),
+}
+
+// What is wrong with a line.
+#[derive(Clone, Copy, PartialEq, Eq, Debug)]
+pub enum Fault {
+    // The first field names no kind.
     UnknownWord,
     // So many numbers belong after the word, and so many fields stand there.
     WrongCount(usize, usize),
@@ -36,161 +40,66 @@ pub enum Line {
     TooLarge(usize),
 }
 
-fn same(a: &[u8], b: &[u8]) -> bool
-    ensures { result ≡ same a.now b.now }
+fn kind_of(word: &[u8]) -> Option<Kind>
+    ensures { result ≡ word_of word.now }
 {
-    if a.len() != b.len() {
-        return false;
-    }
-    let mut i = 0;
-    while i < a.len() {
-        if a[i] != slices::byte(b, i) {
-            return false;
-        }
-        i += 1;
-    }
-    true
-}
-
-fn read_word(text: &[u8]) -> Word
-    ensures { result ≡ word_of text.now }
-{
-    if same(text, b"process") {
-        return Word::Process;
-    }
-    if same(text, b"section") {
-        return Word::Section;
-    }
-    if same(text, b"region") {
-        return Word::Region;
-    }
-    Word::Other
-}
-
-// How many numbers belong after a word: none after another than the three.
-fn numbers_after(word: Word) -> usize
-    ensures { (result ≡ numbers_after word) × (result ≤ 4) }
-{
-    match word {
-        Word::Process => 4,
-        Word::Section => 4,
-        Word::Region => 2,
-        Word::Other => 0,
+    if word == b"process".as_slice() {
+        Some(Kind::Process)
+    } else if word == b"section".as_slice() {
+        Some(Kind::Section)
+    } else if word == b"region".as_slice() {
+        Some(Kind::Region)
+    } else {
+        None
     }
 }
 
-fn is_unread(number: Number) -> bool
-    ensures { result ≡ unread number }
+fn fault_at(k: usize, error: NumberError) -> Fault
+    ensures { result ≡ fault_at k (Err error) }
 {
-    match number {
-        Number::Value(_) => false,
-        Number::TooLarge => true,
-        Number::NotOne => true,
+    match error {
+        NumberError::TooLarge => Fault::TooLarge(k),
+        NumberError::NotNumber => Fault::NotNumber(k),
     }
 }
 
-fn value_of(number: Number) -> u32
-    ensures { result ≡ value_of number }
+// The number that field k spells.
+fn number_at(line: &[u8], k: usize) -> Result<u32, Fault>
+    ensures { MatchResult result
+        (λ v. number_of (get_or (fields line.now) k []) ≡ Ok v)
+        (λ fault. (unread (number_of (get_or (fields line.now) k [])) ≡ true) × (fault ≡ fault_at k (number_of (get_or (fields line.now) k [])))) }
 {
-    match number {
-        Number::Value(v) => v,
-        Number::TooLarge => 0,
-        Number::NotOne => 0,
-    }
+    numerals::read_number(record_fields::field(line, k)).map_err(|error| fault_at(k, error))
 }
 
-fn fault_at(k: usize, number: Number) -> Line
-    ensures { result ≡ fault_at k number }
-{
-    match number {
-        Number::Value(_) => Line::NotNumber(k),
-        Number::TooLarge => Line::TooLarge(k),
-        Number::NotOne => Line::NotNumber(k),
-    }
-}
-
-fn record_of(word: Word, a: u32, b: u32, c: u32, d: u32) -> Line
-    ensures { result ≡ record_of word a b c d }
-{
-    match word {
-        Word::Process => Line::Process(a, b, c, d),
-        Word::Section => Line::Section(a, b, c, d),
-        Word::Region => Line::Region(a, b),
-        Word::Other => Line::UnknownWord,
-    }
-}
-
-// The number of a field; 0 where it is no number of 32 bits.
-fn value_at(line: &[u8], k: usize) -> u32
-    ensures { result ≡ value_at (fields line.now) k }
-{
-    value_of(numerals::read_number(record_fields::field(line, k)))
-}
-
-// The first field after the word that is no number of 32 bits; `count`, the number of fields, where all are.
-fn first_unread(line: &[u8], count: usize) -> usize
-    requires { (count ≡ length (fields line.now)) × (1 ≤ count) }
-    ensures { result ≡ first_unread (fields line.now) }
-{
-    let mut k = 1;
-    while k < count {
-        if is_unread(numerals::read_number(record_fields::field(line, k))) {
-            return k;
-        }
-        k += 1;
-    }
-    k
-}
-
-// A line with that word and so many fields, as many as it should have.
-fn read_numbered(word: Word, line: &[u8], count: usize) -> Line
-    requires { (count ≡ length (fields line.now)) × (1 ≤ count) }
-    ensures { result ≡ numbered word (fields line.now) }
-{
-    let k = first_unread(line, count);
-    if k < count {
-        return fault_at(k, numerals::read_number(record_fields::field(line, k)));
-    }
-    record_of(
-        word,
-        value_at(line, 1),
-        value_at(line, 2),
-        value_at(line, 3),
-        value_at(line, 4),
-    )
-}
-
-// What a line says. The word is looked at first, then how many numbers there are, then each number.
-pub fn read_line(line: &[u8]) -> Line
-    ensures { result ≡ line_of line.now }
+// The numbers after the word, where N belong there.
+fn read_numbers<const N: usize>(line: &[u8]) -> Result<[u32; N], Fault>
+    requires { (N ≤ 4) × (1 ≤ length (fields line.now)) }
+    ensures { result ≡ numbers_of N (fields line.now) }
 {
     let count = record_fields::field_count(line);
-    if count == 0 {
-        return Line::Empty;
+    if count != 1 + N {
+        return Err(Fault::WrongCount(N, count - 1));
     }
-    let word = read_word(record_fields::field(line, 0));
-    let n = numbers_after(word);
-    if n == 0 {
-        return Line::UnknownWord;
+    let mut numbers = [0; N];
+    for k in 0..N {
+        numbers[k] = number_at(line, k + 1)?;
     }
-    if count != 1 + n {
-        return Line::WrongCount(n, count - 1);
-    }
-    read_numbered(word, line, count)
+    Ok(numbers)
 }
 
-// Whether the line is at fault.
-pub fn is_faulty(line: Line) -> bool
-    ensures { result ≡ faulty line }
+// What a line says; `None` where it has no field. The word is looked at first, then how many numbers there are, then each number.
+pub fn read_line(line: &[u8]) -> Result<Option<Record>, Fault>
+    ensures { result ≡ line_of line.now }
 {
-    match line {
-        Line::Empty => false,
-        Line::Process(_, _, _, _) => false,
-        Line::Section(_, _, _, _) => false,
-        Line::Region(_, _) => false,
-        Line::UnknownWord => true,
-        Line::WrongCount(_, _) => true,
-        Line::NotNumber(_) => true,
-        Line::TooLarge(_) => true,
+    if record_fields::field_count(line) == 0 {
+        return Ok(None);
     }
+    let record = match kind_of(record_fields::field(line, 0)) {
+        Some(Kind::Process) => Record::Process(read_numbers(line)?),
+        Some(Kind::Section) => Record::Section(read_numbers(line)?),
+        Some(Kind::Region) => Record::Region(read_numbers(line)?),
+        None => return Err(Fault::UnknownWord),
+    };
+    Ok(Some(record))
 }

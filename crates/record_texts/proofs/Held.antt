@@ -1,28 +1,20 @@
 -- The words of records, put one after the other.
-use mathlib.Core.Path.{◌≡◌, refl, sym, ap, ◌∙◌}
-use mathlib.Core.Bool.{false, ◌&&◌}
-use mathlib.Core.List.{List, [], ◌∷◌, ◌++◌, append_assoc, append-nil}
-use Prim.Native.Nat.{ℕ, ◌+◌, ◌-◌, ◌≤◌, ◌<◌, min}
-use native.Mathlib.Decide.{dec_lt, ℕ_discrete}
-use native.Mathlib.Omega.{arith}
-use lib.ListN.{length, get_or, set, length-set}
-use lib.Seq.{ext_get_or, get_or-set_same, get_or-set_other}
-use lib.Dec.{leb, ltb}
-use borrow.Author.Tests.{le-leb, lt-leb, lt-ltb, le-ltb}
+use Rattle.std.proofs.Common.{◌≡◌, refl, sym, ap, ◌∙◌, List, [], ◌∷◌, ◌++◌, append_assoc, append-nil, false, ◌&&◌, ℕ, ◌+◌, ◌-◌, ◌≤◌, ◌<◌, min, leb, ltb, length, get_or, set, take, length-set, get_or-set_same, get_or-set_other, ext_get_or, arith, le-leb, lt-ltb, le-ltb}
+use Rattle.std.proofs.Math.Decide.{dec_lt, ℕ_discrete}
+use Rattle.std.proofs.lemmas.List.{take_more}
+use borrow.Author.Tests.{lt-leb}
 use Rattle.laws.specs.Choice.{choose_yes, choose_no}
 use Rattle.laws.specs.Lists.{tab_length, tab_get}
 use Rattle.stores.specs.Writes.{copied}
 use Rattle.text.specs.Text.{Appended}
 use Rattle.text.proofs.Appended.{appended_none, appended_then}
-use Rattle.record_lines.specs.declared.Line.{Line}
-use Rattle.record_lines.specs.declared.Line.TheVariants.{Empty, Process, Section, Region, UnknownWord, WrongCount, NotNumber, TooLarge}
-use Rattle.record_texts.specs.Texts.{process_words, section_words, region_words, words_of}
+use Rattle.record_texts.specs.Texts.{Line, words_of}
 
 -- A WORD
 -- where there is no room all stays
-pub put_full : (xs : List ℕ) (at w : ℕ) → length xs ≤ at → Appended xs at (w ∷ []) xs (length xs)
+pub put_full : (xs : List ℕ) (at w r : ℕ) → length xs ≤ at → r ≡ length xs → Appended xs at (w ∷ []) xs r
 unfolding copied
-put_full xs at w h = record {
+put_full xs at w r h e = record {
   bytes_are = ext_get_or 0 xs (copied xs at (w ∷ [])) (sym (tab_length (length xs) _)) (λ k l.
       sym (tab_get (length xs) _ k 0 l ∙ choose_no _ _ (rw (lt-leb at k (omega arith)))));
   end_is = omega arith;
@@ -51,39 +43,13 @@ put_one xs at w h = record {
       | no l ↦ rw (le-leb at k (omega arith), le-ltb k (at + 1) (omega arith))
     ]
 
--- A LINE OF ANOTHER KIND has no words
-pub process_none : (l : Line) → ((a b c d : ℕ) → l ≡ Process a b c d → ⊥) → process_words l ≡ []
-process_none Empty h = refl
-process_none (Process a b c d) h = absurd (h a b c d refl)
-process_none (Section a b c d) h = refl
-process_none (Region a b) h = refl
-process_none UnknownWord h = refl
-process_none (WrongCount n m) h = refl
-process_none (NotNumber k) h = refl
-process_none (TooLarge k) h = refl
+-- WORDS, one after the other: the first i are put
+pub put_first : (xs ws : List ℕ) (at r : ℕ) → r ≡ min at (length xs) → Appended xs at (take 0 ws) xs r
+put_first xs ws at r e = appended_none xs at r e
 
-pub section_none : (l : Line) → ((a b c d : ℕ) → l ≡ Section a b c d → ⊥) → section_words l ≡ []
-section_none Empty h = refl
-section_none (Process a b c d) h = refl
-section_none (Section a b c d) h = absurd (h a b c d refl)
-section_none (Region a b) h = refl
-section_none UnknownWord h = refl
-section_none (WrongCount n m) h = refl
-section_none (NotNumber k) h = refl
-section_none (TooLarge k) h = refl
-
-pub region_none : (l : Line) → ((a b : ℕ) → l ≡ Region a b → ⊥) → region_words l ≡ []
-region_none Empty h = refl
-region_none (Process a b c d) h = refl
-region_none (Section a b c d) h = refl
-region_none (Region a b) h = absurd (h a b refl)
-region_none UnknownWord h = refl
-region_none (WrongCount n m) h = refl
-region_none (NotNumber k) h = refl
-region_none (TooLarge k) h = refl
-
-pub put_none : (xs t : List ℕ) (at r : ℕ) → t ≡ [] → r ≡ min at (length xs) → Appended xs at t xs r
-put_none xs t at r e h = rw e (appended_none xs at r h)
+pub put_next : (ws : List ℕ) (i : ℕ) {xs ys zs : List ℕ} {at m r : ℕ} → i < length ws → Appended xs at (take i ws) ys m → Appended ys m (get_or ws i 0 ∷ []) zs r
+    → Appended xs at (take (i + 1) ws) zs r
+put_next ws i h p q = rw (take_more ws i 0 h) (appended_then p q)
 
 -- ALL LINES
 pub words_nil : (words : Line → List ℕ) → words_of words [] ≡ []

@@ -1,9 +1,10 @@
 -- The records of a text, a line for each.
-use Rattle.std.specs.Prelude.{Bool, ◌&&◌, List, [], ◌∷◌, ◌++◌, map, ℕ, eqb, get_or, drop}
+use Rattle.std.specs.Prelude.{Bool, ◌&&◌, List, [], ◌∷◌, ◌++◌, map, ℕ, eqb, get_or, drop, Option, Some, None, Result, Ok, Err}
 use Rattle.notation.specs.Choice.{choose}
 use Rattle.record_fields.specs.Fields.{before, pieces}
-use Rattle.record_lines.specs.declared.Line.{Line}
-use Rattle.record_lines.specs.declared.Line.TheVariants.{Empty, Process, Section, Region, UnknownWord, WrongCount, NotNumber, TooLarge}
+use Rattle.record_lines.specs.declared.Record.{Record}
+use Rattle.record_lines.specs.declared.Record.TheVariants.{Process, Section, Region}
+use Rattle.record_lines.specs.declared.Fault.{Fault}
 use Rattle.record_lines.specs.Lines.{line_of, faulty}
 
 -- LINES
@@ -19,6 +20,10 @@ mark_length t = choose (eqb (get_or t 0 0) 239 && (eqb (get_or t 1 0) 187 && eqb
 unfoldable pub lines : List ℕ → List (List ℕ)
 lines t = pieces line_feed (drop (mark_length t) t)
 
+-- what a line says: a record or none, or its fault
+abbrev pub Line : Type 0
+Line = Result (Option Record) Fault
+
 -- what the lines say, up to and without the first that is at fault
 unfoldable pub sound_lines : List ℕ → List Line
 sound_lines t = before faulty (map line_of (lines t))
@@ -26,34 +31,25 @@ sound_lines t = before faulty (map line_of (lines t))
 -- RECORDS
 -- the words of a line's record, where it is of that kind
 abbrev pub process_words : Line → List ℕ
-process_words Empty = []
-process_words (Process a b c d) = a ∷ b ∷ c ∷ d ∷ []
-process_words (Section a b c d) = []
-process_words (Region a b) = []
-process_words UnknownWord = []
-process_words (WrongCount n m) = []
-process_words (NotNumber k) = []
-process_words (TooLarge k) = []
+process_words (Ok (Some (Process words))) = words
+process_words (Ok (Some (Section words))) = []
+process_words (Ok (Some (Region words))) = []
+process_words (Ok None) = []
+process_words (Err f) = []
 
 abbrev pub section_words : Line → List ℕ
-section_words Empty = []
-section_words (Process a b c d) = []
-section_words (Section a b c d) = a ∷ b ∷ c ∷ d ∷ []
-section_words (Region a b) = []
-section_words UnknownWord = []
-section_words (WrongCount n m) = []
-section_words (NotNumber k) = []
-section_words (TooLarge k) = []
+section_words (Ok (Some (Process words))) = []
+section_words (Ok (Some (Section words))) = words
+section_words (Ok (Some (Region words))) = []
+section_words (Ok None) = []
+section_words (Err f) = []
 
 abbrev pub region_words : Line → List ℕ
-region_words Empty = []
-region_words (Process a b c d) = []
-region_words (Section a b c d) = []
-region_words (Region a b) = a ∷ b ∷ []
-region_words UnknownWord = []
-region_words (WrongCount n m) = []
-region_words (NotNumber k) = []
-region_words (TooLarge k) = []
+region_words (Ok (Some (Process words))) = []
+region_words (Ok (Some (Section words))) = []
+region_words (Ok (Some (Region words))) = words
+region_words (Ok None) = []
+region_words (Err f) = []
 
 -- the words of all lines, one after the other
 unfoldable pub words_of : (Line → List ℕ) → List Line → List ℕ

@@ -2,21 +2,32 @@
 #![tactic(auto)]
 
 ghost use Rattle.text.specs.Text.{Appended};
+ghost use Rattle.text.specs.Puts.{Puts};
 ghost use Rattle.refusal_line.specs.Line.{refused_line};
 
-// Puts the line into a lent buffer at an index, as much of it as there is room for. Answers the index after it.
+use text::Out;
+
+// Puts the line, as much of it as there is room for.
+pub fn put_line(out: &mut Out<'_>, number: u32, place: u32, offset: u32)
+    ensures { Puts out.old (refused_line number place offset) out.new }
+{
+    out.put_two_numbers(
+        b"refused ",
+        u64::from(number),
+        b" at ",
+        u64::from(place),
+        b", byte ",
+    );
+    out.put_decimal(u64::from(offset));
+    out.put(b"\n");
+}
+
+// The same at an index of a buffer, which may be past its end. Answers the index after the line.
 pub fn put_refused(to: &mut [u8], at: usize, number: u32, place: u32, offset: u32) -> usize
     ensures { Appended to.old at (refused_line number place offset) to.new result }
 {
-    let byte = text::put_two_numbers(
-        to,
-        at,
-        b"refused ",
-        number as u64,
-        b" at ",
-        place as u64,
-        b", byte ",
-    );
-    let end = text::put_decimal(to, byte, offset as u64);
-    text::put(to, end, b"\n")
+    let end = at.min(to.len());
+    let mut out = Out { buffer: to, end };
+    put_line(&mut out, number, place, offset);
+    out.end
 }

@@ -1,24 +1,20 @@
 -- What the listing says of each process: the pages it owns of the order of pages, and its root.
-use mathlib.Core.Path.{◌≡◌, refl, sym, ap, ◌∙◌}
-use mathlib.Core.Logic.{◌≢◌}
-use mathlib.Core.Bool.{Bool, true, false}
-use mathlib.Core.List.{List}
+use Rattle.std.proofs.Common.{◌≡◌, refl, sym, ap, subst, ◌∙◌, ◌≢◌, Bool, true, false, List, arith, eqb, eq-eqb, ne_eqb, eqb-true, le-leb, ltb-false}
+use Rattle.std.specs.Prelude.{Some}
 use Prim.Native.Nat.{ℕ, suc, ◌+◌, ◌-◌, ◌≤◌}
-use native.Mathlib.Omega.{arith}
-use lib.Dec.{eqb}
-use borrow.Author.Tests.{eq-eqb, ne_eqb, eqb-true, eqb-false, le-leb, ltb-false}
+use borrow.Author.Tests.{eqb-false}
 use Rattle.notation.specs.Choice.{choose}
 use Rattle.notation.specs.Lists.{tab, gather, count, sum}
-use Rattle.types.specs.declared.Answer.{Answer}
+use Rattle.rules.specs.Answers.{Answer}
 use Rattle.types.specs.declared.Area.{Area}
-use Rattle.rules.specs.Lent.{Image, Memory, memory_area, pages_in}
+use Rattle.rules.specs.Lent.{Image, Memory, memory_of, memory_area, pages_in}
 use Rattle.rules.specs.Block.{process_count, section_count}
 use Rattle.rules.specs.InPlace.{xip_of}
 use Rattle.rules.specs.Order.{Use, top, root_table, section_pages, section_uses, has_leaf, table_uses, order, uses, tracker_pages, pages_needed, data_owner, use_owner, pages_of}
 use Rattle.rules.specs.Refusals.{outside, counts_outside, counts_out_of_bounds, verdict}
 use Rattle.rules.specs.Load.{phys_page, boot_answer, refusal_answer, answer_on, answer}
 use Rattle.laws.specs.Choice.{by_choose, choose_yes, and_both, any_none}
-use Rattle.laws.specs.Lists.{Every, Absent, every_tab, every_gather}
+use Rattle.laws.specs.Lists.{Every, Absent, every_tab, every_gather, tab_length}
 use Rattle.laws.specs.Counts.{sum_same, sum_first, count_append, count_all, count_gather, count_none}
 use Rattle.order_laws.specs.Uses.{after_users, order_users, every_after_users}
 use Rattle.order_laws.specs.Places.{process_pages, user_pages, user_pages_none, user_pages_next, section_uses_length}
@@ -27,8 +23,6 @@ use Rattle.accepted.specs.Fits.{fits}
 use Rattle.accepted.specs.InPlace.{none_past}
 use Rattle.accepted.specs.Counting.{owners_sum}
 use Rattle.xip_sections.specs.Marks.{marked, marks_of, marks_say}
-use Rattle.order_roots.specs.declared.Root.{Root}
-use Rattle.order_roots.specs.declared.Root.TheVariants.{Nowhere, At}
 use Rattle.order_roots.specs.Roots.{is_process, root_found}
 
 -- A USER: its sections' pages
@@ -107,15 +101,10 @@ pages_owned b xip N q e lo hi h = h ∙ by_choose (λ (r : ℕ). r ≡ pages_of 
     (λ c. sym (user_owned b xip N q (omega (arith, eqb-false q 1 c)) hi))
 
 -- THE ROOT
-abbrev page_number : Root → ℕ
-page_number Nowhere = 0
-page_number (At P) = P.0
-
-pub root_is : (x : Image) (ram : Area) (q : ℕ) (root known : Root) → (verdict x ram).number ≡ 0 → 1 ≤ q → q ≤ process_count x.block
-    → root ≡ root_found x ram q → root ≡ known → page_number known ≡ phys_page x.block (xip_of x) (pages_in ram) (root_table q)
+pub root_is : (x : Image) (ram : Area) (q : ℕ) → (verdict x ram).number ≡ 0 → 1 ≤ q → q ≤ process_count x.block
+    → root_found x ram q ≡ Some (record { 0 = phys_page x.block (xip_of x) (pages_in ram) (root_table q) })
 unfolding root_found is_process
-root_is x ram q root known z lo hi e k =
-    ap page_number (sym k ∙ e ∙ choose_yes _ _ (and_both (eq-eqb _ 0 z) (and_both (le-leb 1 q lo) (le-leb q (process_count x.block) hi))))
+root_is x ram q z lo hi = choose_yes _ _ (and_both (eq-eqb _ 0 z) (and_both (le-leb 1 q lo) (le-leb q (process_count x.block) hi)))
 
 -- A BOOT
 booted : (x : Image) (r : Memory) → (answer x r).number ≡ 0
@@ -145,3 +134,20 @@ booted_kernel x r a xip e z m h =
     let right : marked xip ≡ xip_of x = ap marked m ∙ booted_marks x (memory_area r) ok in
     let all = owners_add x.block (xip_of x) (pages_in (memory_area r)).pages (fits x (memory_area r) ok).some_process in
     (known.0, right, rw right (omega (arith, rw (e, right) at h, known.1, all)))
+
+-- the same for RAM that lies so, whatever its bytes
+some_memory : Area → Memory
+some_memory ram = memory_of ram.start (tab ram.length (λ k. 0))
+
+area_is : (ram : Area) → memory_area (some_memory ram) ≡ ram
+unfolding some_memory
+area_is ram = rw (tab_length {A = ℕ} ram.length (λ k. 0)) refl
+
+pub booted_kernel_on : (x : Image) (ram : Area) (a : Answer) (xip : List ℕ) {kernel : ℕ} → a ≡ answer_on x ram → a.number ≡ 0
+    → xip ≡ marks_of x.block x.flash.bytes 64
+    → kernel ≡ a.taken - user_pages x.block (marked xip) (process_count x.block - 1)
+    → ((verdict x ram).number ≡ 0) × (marked xip ≡ xip_of x) × (kernel ≡ pages_of x.block (marked xip) (pages_in ram).pages 1)
+unfolding answer
+booted_kernel_on x ram a xip {kernel} e z m h =
+    subst (λ y. ((verdict x y).number ≡ 0) × (marked xip ≡ xip_of x) × (kernel ≡ pages_of x.block (marked xip) (pages_in y).pages 1)) (area_is ram)
+    (booted_kernel x (some_memory ram) a xip (e ∙ ap (answer_on x) (sym (area_is ram))) z m h)

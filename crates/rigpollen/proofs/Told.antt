@@ -1,26 +1,22 @@
--- Words put one after the other.
-use mathlib.Core.Path.{◌≡◌, refl, ◌∙◌}
-use mathlib.Core.List.{List}
-use Prim.Native.Nat.{ℕ}
-use lib.ListN.{set}
-use lib.Seq.{sets}
-use Rattle.types.specs.declared.Answer.{Answer}
-use Rattle.types.specs.declared.Written.{Written}
-use Rattle.types.specs.declared.PhysPage.{PhysPage}
-use Rattle.types.specs.declared.Rights.{Rights}
-use Rattle.types.specs.declared.Entry.{Entry}
-use Rattle.types.specs.declared.Entry.TheVariants.{Page}
-use Rattle.rigpollen.specs.Words.{answer_words, rights_word, entry_number, entry_words, written_words}
+-- Words put one after the other, as many as fit.
+use Rattle.std.proofs.Common.{◌≡◌, ℕ, suc, zero, ◌+◌, ◌-◌, ◌≤◌, ◌<◌, min, List, [], ◌∷◌, length, get_or, take, set, refl, sym, arith, length-set}
+use Rattle.std.proofs.Math.Seq.{set_out}
+use Rattle.std.proofs.lemmas.List.Edits.{sets}
 
-pub answer_told : (f : Answer) (a₀ a₁ a₂ a₃ a₄ a₅ a₆ : List ℕ)
-    → a₁ ≡ set a₀ 0 f.number → a₂ ≡ set a₁ 1 f.place → a₃ ≡ set a₂ 2 f.taken → a₄ ≡ set a₃ 3 f.free → a₅ ≡ set a₄ 4 f.tracker
-    → a₆ ≡ set a₅ 5 f.offset → a₆ ≡ sets a₀ 0 (answer_words f)
-answer_told f a₀ a₁ a₂ a₃ a₄ a₅ a₆ e₁ e₂ e₃ e₄ e₅ e₆ = e₆ ∙ rw (e₅, e₄, e₃, e₂, e₁)
+-- one more word
+pub sets_next : (l : List ℕ) (j : ℕ) (ws : List ℕ) (i k : ℕ) → i < length ws → k ≡ j + i → set (sets l j (take i ws)) k (get_or ws i 0) ≡ sets l j (take (suc i) ws)
+sets_next l j [] i k h e = absurd (omega arith)
+sets_next l j (w ∷ ws) zero k h e = let z : k ≡ j = omega arith in rw z refl
+sets_next l j (w ∷ ws) (suc i) k h e = sets_next (set l j w) (suc j) ws i k (omega arith) (omega arith)
 
-pub written_told : (w : Written) (a₀ a₁ a₂ a₃ a₄ : List ℕ)
-    → a₁ ≡ set a₀ 0 w.number → a₂ ≡ set a₁ 1 w.place → a₃ ≡ set a₂ 2 w.length → a₄ ≡ set a₃ 3 w.offset → a₄ ≡ sets a₀ 0 (written_words w)
-written_told w a₀ a₁ a₂ a₃ a₄ e₁ e₂ e₃ e₄ = e₄ ∙ rw (e₃, e₂, e₁)
+-- words beyond the end are not put
+sets_beyond : (l : List ℕ) (j : ℕ) (ws : List ℕ) → length l ≤ j → sets l j ws ≡ l
+sets_beyond l j [] h = refl
+sets_beyond l j (w ∷ ws) h = rw (set_out l j w h) (sets_beyond l (suc j) ws (omega arith))
 
-pub page_told : (entry : Entry) (t : Rights) (P : PhysPage) (w : ℕ) (a₀ a₁ a₂ : List ℕ) → entry ≡ Page t P → w ≡ rights_word t
-    → a₁ ≡ set a₀ 0 w → a₂ ≡ set a₁ 1 P.0 → (2 ≡ entry_number entry) × (a₂ ≡ sets a₀ 0 (entry_words entry))
-page_told entry t P w a₀ a₁ a₂ e r e₁ e₂ = rw e (refl, e₂ ∙ rw (e₁, r))
+-- the first n words are all that fit
+pub sets_fit : (l : List ℕ) (j : ℕ) (ws : List ℕ) (n : ℕ) → min (length ws) (length l - j) ≤ n → sets l j (take n ws) ≡ sets l j ws
+sets_fit l j [] zero h = refl
+sets_fit l j [] (suc n) h = refl
+sets_fit l j (w ∷ ws) zero h = sym (sets_beyond l j (w ∷ ws) (omega arith))
+sets_fit l j (w ∷ ws) (suc n) h = sets_fit (set l j w) (suc j) ws n (omega (arith, length-set {A = ℕ}))

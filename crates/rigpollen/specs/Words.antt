@@ -2,8 +2,7 @@
 use Rattle.std.specs.Prelude.{List, [], ◌∷◌, ℕ, ◌+◌, ◌%◌, eqb}
 use Rattle.notation.specs.Choice.{choose}
 use Rattle.types.specs.declared.Area.{Area}
-use Rattle.types.specs.declared.Answer.{Answer}
-use Rattle.types.specs.declared.Written.{Written}
+use Rattle.rules.specs.Answers.{Answer, Written}
 use Rattle.types.specs.declared.Rights.{Rights}
 use Rattle.types.specs.declared.Entry.{Entry}
 use Rattle.types.specs.declared.Entry.TheVariants.{Absent, Reserved, Pointer, Page}

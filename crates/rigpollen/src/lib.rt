@@ -1,27 +1,93 @@
 // The loader, the reader and the block writer as the entries for C have them; `rigpollen_c` hands each on to C.
 #![tactic(auto)]
 
-ghost use Rattle.std.specs.Prelude.{◌≡◌, length, set};
+ghost use Rattle.std.specs.Prelude.{[], ◌≡◌, ◌<◌, length, slice_index, MatchResult};
 ghost use Rattle.std.proofs.lemmas.List.Edits.{sets};
 ghost use Rattle.rules.specs.Lent.{image_of, memory_of, area_of};
 ghost use Rattle.rules.specs.Load.{answer_on, answer as answer_of, ram_after};
 ghost use Rattle.rules.specs.Reader.{walk, page_at};
 ghost use Rattle.rules.specs.Writer.{records_in, written, buffer_after};
+ghost use Rattle.lent.specs.Lent.{image as lent_image};
+ghost use Rattle.refusals.specs.Answers.{answer_of as full_answer_of, written_of};
 ghost use Rattle.stores.specs.Writes.{copied};
 ghost use Rattle.rigpollen.specs.Words.{answer_words, start_words, process_number, process_words, rights_word, entry_number, entry_words, written_words};
 
-use order_roots::Root;
-use types::{Answer, Entry, PhysPage, Rights, Written};
+use lent::{Image, Memory};
+use refusals::{Boot, Refused};
+use types::{Area, Entry, PhysPage, Rights};
 
 // The number for a process that there is not.
 const NO_PROCESS: u32 = 31;
 
-// A word at an index, where there is one.
-fn put(words: &mut [u32], at: usize, word: u32)
-    ensures { words.new ≡ set words.old at word }
+// Puts words into a lent slice from its start on, as many as fit.
+fn put_words(to: &mut [u32], words: &[u32])
+    ensures { to.new ≡ sets to.old 0 words.now }
 {
-    if at < words.len() {
-        words[at] = word;
+    for i in 0..words.len().min(to.len()) {
+        to[i] = words[i];
+    }
+}
+
+// The same of an answer's words, of which the first is the number.
+fn tell(answer: &mut [u32], words: &[u32]) -> u32
+    requires { 0 < length words.now }
+    ensures number { result ≡ slice_index words.now 0 }
+    ensures words { answer.new ≡ sets answer.old 0 words.now }
+{
+    put_words(answer, words);
+    words[0]
+}
+
+// The words of a full answer.
+#[tactic(auto, unfolding(refusals::specs::Answers::answer_of, rules::specs::Load::refusal_answer, rules::specs::Refusals::refused))]
+fn answer_words(answer: Result<Boot, Refused>) -> [u32; 6]
+    ensures { result ≡ answer_words (full_answer_of answer) }
+{
+    match answer {
+        Ok(
+            Boot {
+                taken,
+                free,
+                tracker,
+            },
+        ) => [0, 0, taken, free, tracker, 0],
+        Err(
+            Refused {
+                refusal,
+                place,
+                offset,
+            },
+        ) => [refusal.number(), place, 0, 0, 0, offset],
+    }
+}
+
+// The words of the writer's answer.
+#[tactic(auto, unfolding(refusals::specs::Answers::written_of))]
+fn written_words(answer: Result<u32, Refused>) -> [u32; 4]
+    ensures { result ≡ written_words (written_of answer) }
+{
+    match answer {
+        Ok(length) => [0, 0, length, 0],
+        Err(
+            Refused {
+                refusal,
+                place,
+                offset,
+            },
+        ) => [refusal.number(), place, 0, offset],
+    }
+}
+
+// What is to be loaded, from what C lends.
+fn image<'a>(block: &'a [u8], flash: &'a [u8], flash_start: u32) -> Image<'a>
+    ensures { lent_image result ≡ image_of block.now flash_start flash.now }
+{
+    Image {
+        block,
+        flash: Memory {
+            start: flash_start,
+            bytes: flash,
+        },
     }
 }
 
@@ -37,20 +103,8 @@ pub fn rigpollen_load(
     ensures { (result ≡ (answer_of (image_of block.now flash_start flash.now) (memory_of ram_start ram.old)).number)
         × (ram.new ≡ ram_after (image_of block.now flash_start flash.now) (memory_of ram_start ram.old)) }
 {
-    let answer = loader::load(block, flash, flash_start, ram, ram_start);
-    answer.number
-}
-
-// The words of a full answer.
-fn tell_answer(full: Answer, words: &mut [u32])
-    ensures { words.new ≡ sets words.old 0 (answer_words full) }
-{
-    put(words, 0, full.number);
-    put(words, 1, full.place);
-    put(words, 2, full.taken);
-    put(words, 3, full.free);
-    put(words, 4, full.tracker);
-    put(words, 5, full.offset);
+    let image = image(block, flash, flash_start);
+    answer_words(loader::load(image, ram, ram_start))[0]
 }
 
 // The same load. Number, place, pages taken, pages free, tracker pages and offset are put into `answer`, as many as fit; what lies
@@ -67,9 +121,9 @@ pub fn rigpollen_answer(
         × (ram.new ≡ ram_after (image_of block.now flash_start flash.now) (memory_of ram_start ram.old))
         × (answer.new ≡ sets answer.old 0 (answer_words (answer_of (image_of block.now flash_start flash.now) (memory_of ram_start ram.old)))) }
 {
-    let full = loader::load(block, flash, flash_start, ram, ram_start);
-    tell_answer(full, answer);
-    full.number
+    let image = image(block, flash, flash_start);
+    let full = loader::load(image, ram, ram_start);
+    tell(answer, &answer_words(full))
 }
 
 // The answer that the load would give on RAM of `ram_length` bytes from `ram_start` on, with no RAM lent. It is put into `answer` as
@@ -85,19 +139,40 @@ pub fn rigpollen_check(
     ensures { (result ≡ (answer_on (image_of block.now flash_start flash.now) (area_of ram_start ram_length)).number)
         × (answer.new ≡ sets answer.old 0 (answer_words (answer_on (image_of block.now flash_start flash.now) (area_of ram_start ram_length)))) }
 {
-    let full = checks::answer_on(block, flash, flash_start, ram_start, ram_length);
-    tell_answer(full, answer);
-    full.number
+    let image = image(block, flash, flash_start);
+    let ram = Area {
+        start: ram_start,
+        length: ram_length,
+    };
+    let full = checks::answer_on(image, ram);
+    tell(answer, &answer_words(full))
 }
 
 // The three words of process q, whose root table is at `root`.
-fn tell_process(block: &[u8], q: u32, root: PhysPage, words: &mut [u32])
-    ensures { words.new ≡ sets words.old 0 (start_words block.now q root.0) }
+fn start_words(block: &[u8], q: u32, root: PhysPage) -> [u32; 3]
+    ensures { result ≡ start_words block.now q root.0 }
 {
     let process = block_records::read_process(block, q);
-    put(words, 0, sv32_entries::satp_word(q, root));
-    put(words, 1, process.entry_point);
-    put(words, 2, block_records::stack_pointer(q));
+    [
+        sv32_entries::satp_word(q, root),
+        process.entry_point,
+        block_records::stack_pointer(q),
+    ]
+}
+
+// What process q starts with: its three words; else the number of the refusal, or 31.
+fn process_start(image: Image<'_>, ram: Area, q: u32) -> Result<[u32; 3], u32>
+    ensures { MatchResult result
+        (λ words. (0 ≡ process_number (lent_image image.entry) ram q) × (words ≡ process_words (lent_image image.entry) ram q))
+        (λ number. (number ≡ process_number (lent_image image.entry) ram q) × ([] ≡ process_words (lent_image image.entry) ram q)) }
+{
+    if let Err(e) = checks::check(image, ram) {
+        return Err(e.refusal.number());
+    }
+    match order_roots::find_root(image, ram, q) {
+        None => Err(NO_PROCESS),
+        Some(root) => Ok(start_words(image.block, q, root)),
+    }
 }
 
 // What a process starts with, where the block boots on RAM of `ram_length` bytes from `ram_start` on: its satp word, entry point and
@@ -115,27 +190,26 @@ pub fn rigpollen_process(
     ensures { (result ≡ process_number (image_of block.now flash_start flash.now) (area_of ram_start ram_length) process)
         × (words.new ≡ sets words.old 0 (process_words (image_of block.now flash_start flash.now) (area_of ram_start ram_length) process)) }
 {
-    let verdict = checks::check(block, flash, flash_start, ram_start, ram_length);
-    if verdict.number != 0 {
-        return verdict.number;
-    }
-    match order_roots::find_root(block, flash, flash_start, ram_start, ram_length, process) {
-        Root::Nowhere => NO_PROCESS,
-        Root::At(page) => {
-            tell_process(block, process, page, words);
+    let image = image(block, flash, flash_start);
+    let ram = Area {
+        start: ram_start,
+        length: ram_length,
+    };
+    match process_start(image, ram, process) {
+        Ok(start) => {
+            put_words(words, &start);
             0
         }
+        Err(number) => number,
     }
 }
 
 // A page's rights as one word.
+#[tactic(auto, unfolding(crate::specs::Words::rights_word, notation::specs::Choice::choose))]
 fn rights_word(t: Rights) -> u32
     ensures { result ≡ rights_word t }
 {
-    numbers::flag(t.read, 1)
-        + numbers::flag(t.write, 2)
-        + numbers::flag(t.execute, 4)
-        + numbers::flag(t.user, 8)
+    u32::from(t.read) + 2 * u32::from(t.write) + 4 * u32::from(t.execute) + 8 * u32::from(t.user)
 }
 
 // What the walk answered.
@@ -143,12 +217,10 @@ fn tell_entry(entry: Entry, page: &mut [u32]) -> u32
     ensures { (result ≡ entry_number entry) × (page.new ≡ sets page.old 0 (entry_words entry)) }
 {
     match entry {
-        Entry::Absent => 0,
+        Entry::Absent | Entry::Pointer(_) => 0,
         Entry::Reserved => 1,
-        Entry::Pointer(_) => 0,
         Entry::Page(t, p) => {
-            put(page, 0, rights_word(t));
-            put(page, 1, p.0);
+            put_words(page, &[rights_word(t), p.0]);
             2
         }
     }
@@ -161,8 +233,11 @@ pub fn rigpollen_walk(ram: &[u8], ram_start: u32, root: u32, address: u32, page:
     ensures { (result ≡ entry_number (walk (memory_of ram_start ram.now) root address))
         × (page.new ≡ sets page.old 0 (entry_words (walk (memory_of ram_start ram.now) root address))) }
 {
-    let entry = sv32_reader::walk(ram, ram_start, PhysPage(root), address);
-    tell_entry(entry, page)
+    let ram = Memory {
+        start: ram_start,
+        bytes: ram,
+    };
+    tell_entry(sv32_reader::walk(ram, PhysPage(root), address), page)
 }
 
 // The bytes of the page at an address, by way of a root table in RAM, are put into `bytes`, as many as fit; what lies beyond stays. They
@@ -180,19 +255,17 @@ pub fn rigpollen_page<'a>(
     ensures { (result ≡ length (page_at (memory_of ram_start ram.now) (memory_of flash_start flash.now) root address))
         × (bytes.new ≡ copied bytes.old 0 (page_at (memory_of ram_start ram.now) (memory_of flash_start flash.now) root address)) }
 {
-    let part = sv32_pages::page(ram, ram_start, flash, flash_start, PhysPage(root), address);
+    let ram = Memory {
+        start: ram_start,
+        bytes: ram,
+    };
+    let flash = Memory {
+        start: flash_start,
+        bytes: flash,
+    };
+    let part = sv32_pages::page(ram, flash, PhysPage(root), address);
     stores::copy_in(bytes, 0, part);
     part.len()
-}
-
-// The words of the writer's answer.
-fn tell_written(full: Written, words: &mut [u32])
-    ensures { words.new ≡ sets words.old 0 (written_words full) }
-{
-    put(words, 0, full.number);
-    put(words, 1, full.place);
-    put(words, 2, full.length);
-    put(words, 3, full.offset);
 }
 
 // Writes the boot block of these records to the start of `buffer`; bytes beyond it stay. Number, place, length and offset are put into
@@ -209,6 +282,5 @@ pub fn rigpollen_write_block(
         × (answer.new ≡ sets answer.old 0 (written_words (written (records_in processes.now sections.now regions.now) (length buffer.old)))) }
 {
     let full = block_writer::write_block(processes, sections, regions, buffer);
-    tell_written(full, answer);
-    full.number
+    tell(answer, &written_words(full))
 }

@@ -1,4 +1,5 @@
-// The entries for C, of the static library. A slice passes as a pointer and then a length.
+// The entries for C, of the static library: each stands here and in `rigpollen`, since a crate is a library or a static library. A slice
+// passes as a pointer and then a length.
 #![tactic(auto)]
 
 ghost use Rattle.std.specs.Prelude.{◌≡◌, length};

@@ -3,7 +3,7 @@ use Rattle.std.specs.Prelude.{◌≡◌, refl, Bool, true, ◌&&◌, List, [], �
 use Rattle.notation.specs.Choice.{choices}
 use Rattle.notation.specs.Lists.{tab, lists}
 use Rattle.notation.specs.Words.{bytes_of, words}
-use Rattle.types.specs.declared.Answer.{Answer}
+use Rattle.rules.specs.Answers.{Answer}
 use Rattle.rules.specs.Lent.{image_of, area_of, area_rules}
 use Rattle.rules.specs.Block.{block_rules}
 use Rattle.rules.specs.InPlace.{in_place_rules}
@@ -73,7 +73,7 @@ unfolding board small_board given example_holds all_hold examples
 example_rules = tt
 
 -- all examples hold
--- where this is refused: `--` before rows of `examples`, from the last up, with `rt dev rules` after each, until it passes
+-- where this is refused: `--` before rows of `examples`, from the last up, with `rt check` in this crate's folder after each, until it passes
 pub P1-to-P12 : all_hold examples ≡ true
 unfolding example_rules load_rules refusal_rules order_rules in_place_rules block_rules area_rules words lists choices
 P1-to-P12 = refl

@@ -1,4 +1,5 @@
 pub mod Lent
+pub mod Answers
 pub mod Block
 pub mod Space
 pub mod InPlace

@@ -6,8 +6,7 @@ use Rattle.notation.specs.Lists.{tab}
 use Rattle.notation.specs.Words.{byte_of}
 use Rattle.types.specs.declared.Area.{Area}
 use Rattle.types.specs.declared.PageRange.{PageRange}
-use Rattle.types.specs.declared.Verdict.{Verdict}
-use Rattle.types.specs.declared.Answer.{Answer}
+use Rattle.rules.specs.Answers.{Verdict, Answer}
 use Rattle.rules.specs.Lent.{Image, Memory, memory_of, memory_area, pages_in}
 use Rattle.rules.specs.Block.{section_record, flash_offset_of}
 use Rattle.rules.specs.Space.{Data, section_page, tracker_page, process_list, block_copy}

@@ -4,8 +4,7 @@ use Rattle.notation.specs.Choice.{choose, any}
 use Rattle.notation.specs.Lists.{sum, exists}
 use Rattle.types.specs.declared.Area.{Area}
 use Rattle.types.specs.declared.Process.{Process}
-use Rattle.types.specs.declared.RecordCheck.{RecordCheck}
-use Rattle.types.specs.declared.Verdict.{Verdict}
+use Rattle.rules.specs.Answers.{RecordCheck, Verdict}
 use Rattle.rules.specs.Lent.{Image, memory_area, end_of, pages_in, share_address}
 use Rattle.rules.specs.Block.{format, length_field, process_count, process_offset, section_count, section_offset, region_count, region_offset, sections_at, regions_at, tight_length}
 use Rattle.rules.specs.Block.{process_at, entry_point_of, first_section_of, sections_of, process_record, kind_of, stack_bits, stack_first, section_record, owner_of, section_at, address, size, flash_offset_of, flags, is_no_copy, writable, executable, section_end, first_page_of, last_page_of}

@@ -3,8 +3,7 @@ use Rattle.std.specs.Prelude.{Bool, not, List, [], ◌∷◌, ◌++◌, ℕ, ◌
 use Rattle.notation.specs.Choice.{choose, any}
 use Rattle.notation.specs.Lists.{gather}
 use Rattle.notation.specs.Words.{bytes_of}
-use Rattle.types.specs.declared.Verdict.{Verdict}
-use Rattle.types.specs.declared.Written.{Written}
+use Rattle.rules.specs.Answers.{Verdict, Written}
 use Rattle.rules.specs.Block.{process_count, section_count, region_count, sections_from, regions_from, length_for}
 use Rattle.rules.specs.Block.{entry_point_of, first_section_of, sections_of, kind_word_of, address, size, flash_offset_of, flags, region_start, region_pages}
 use Rattle.rules.specs.Refusals.{counts_outside, Check, whole, first_refusal, process_checks}

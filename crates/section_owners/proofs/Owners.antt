@@ -1,9 +1,7 @@
 -- Laws of the search for a section's owner, from the last process record down.
-use mathlib.Core.Path.{◌≡◌, sym, ◌∙◌}
-use mathlib.Core.Bool.{true, false}
-use mathlib.Core.List.{List}
-use mathlib.Core.Option.{none, some}
-use Prim.Native.Nat.{ℕ, ◌+◌}
+use Rattle.std.specs.Prelude.{◌≡◌, true, false, List, ℕ, ◌+◌}
+use Rattle.std.proofs.Common.{◌∙◌, sym}
+use Rattle.std.proofs.Math.Option.{none, some}
 use Rattle.notation.specs.Lists.{find_last}
 use Rattle.laws.specs.Choice.{choose_yes, choose_no}
 use Rattle.laws.specs.Lists.{find_last_none, find_last_next}
@@ -14,11 +12,11 @@ module _ (b : List ℕ) (n : ℕ) where
   abbrev pub Searched : ℕ → Type 0
   Searched q = find_last (has_section b n) q ≡ find_last (has_section b n) (process_count b)
 
-  pub owner_here : (q i : ℕ) → q ≡ i + 1 → Searched q → has_section b n i ≡ true → q ≡ owner_of b n
+  pub owner_here : (r i : ℕ) → r ≡ i + 1 → Searched r → has_section b n i ≡ true → i + 1 ≡ owner_of b n
   unfolding owner_of
-  owner_here q i e s h =
+  owner_here r i e s h =
       let f : find_last (has_section b n) (process_count b) ≡ some i = sym (rw e at s) ∙ find_last_next _ i ∙ choose_yes _ _ h in
-      rw (f, owner_of) e
+      rw (f, owner_of)
 
   pub owner_below : (q i : ℕ) → q ≡ i + 1 → Searched q → has_section b n i ≡ false → Searched i
   owner_below q i e s h = sym (choose_no _ _ h) ∙ sym (find_last_next _ i) ∙ rw e at s

@@ -4,27 +4,24 @@
 ghost use Rattle.std.specs.Prelude.{◌≡◌};
 ghost use Rattle.rules.specs.Block.{has_section, owner_of};
 
-use numbers::both;
-
 // Section record n is one of the sections of process record i.
+#[tactic(auto, unfolding(rules::specs::Block::has_section))]
 fn has_section(block: &[u8], n: usize, i: u32) -> bool
     ensures { result ≡ has_section block.now n i }
 {
     let process = block_records::read_process_record(block, i);
     let first = process.first_section as usize;
-    both(first <= n, n < first + process.sections as usize)
+    first <= n && n < first + process.sections as usize
 }
 
-// The process that owns section record n: the last that has it, 0 where none does.
+// The process that owns section record n: the last that has it, 0 where none does. (0 and no None: so `owner_of` of the rules has it.)
 pub fn owner_of(block: &[u8], n: usize) -> u32
     ensures { result ≡ owner_of block.now n }
 {
-    let mut q = block_header::process_count(block);
-    while 0 < q {
-        if has_section(block, n, q - 1) {
-            return q;
+    for i in (0..block_header::process_count(block)).rev() {
+        if has_section(block, n, i) {
+            return i + 1;
         }
-        q -= 1;
     }
     0
 }

@@ -1,41 +1,18 @@
--- Laws of a list's parts with a bound that is cut off at the list's end.
-use mathlib.Core.Path.{◌≡◌, refl, ap, ◌∙◌}
-use mathlib.Core.Bool.{true}
-use mathlib.Core.List.{List, [], ◌∷◌}
-use Prim.Native.Nat.{ℕ, zero, suc, ◌+◌, ◌-◌, ◌*◌, ◌≤◌, ◌<◌, min}
-use native.Mathlib.Nat.{add-zero, sub-zero, le_refl}
-use native.Mathlib.Omega.{arith}
-use lib.Dec.{leb}
-use lib.ListN.{length, get_or, take, drop, length-drop}
-use lib.Seq.{take_all, take-nil, drop-nil, get_or-drop}
-use borrow.Author.Tests.{le-leb, leb-true}
+-- Laws of a list's tail, and of its words.
+use Rattle.std.specs.Prelude.{◌≡◌, refl, true, List, [], ◌∷◌, ℕ, suc, ◌+◌, ◌-◌, ◌≤◌, ◌<◌, min, length, get_or, take, drop, leb}
+use Rattle.std.specs.Int.{from_le_bytes, w32}
+use Rattle.std.proofs.Common.{◌∙◌, arith, add-zero, le_refl, length-drop, take_all, get_or-drop, le-leb, leb-true}
+use Rattle.std.proofs.Math.Nat.{sub-zero}
+use Rattle.std.proofs.lemmas.List.{drop_min}
 use Rattle.notation.specs.Words.{word}
 use Rattle.laws.specs.Choice.{choose_yes}
 use Rattle.stores.specs.Writes.{copied}
 use Rattle.stores.proofs.Written.{copied_zero}
-use Rattle.slices.specs.declared.FourWords.{FourWords}
 use Rattle.slices.specs.Words.{AreWords}
-
-pub take_least : (n : ℕ) (l : List ℕ) → take (min n (length l)) l ≡ take n l
-take_least n [] = take-nil (min n 0) ∙ rw take-nil
-take_least zero (x ∷ l) = let e : min 0 (suc (length l)) ≡ 0 = omega arith in rw e
-take_least (suc n) (x ∷ l) =
-    let e : min (suc n) (suc (length l)) ≡ suc (min n (length l)) = omega arith in
-    rw e (ap (λ (m : List ℕ). x ∷ m) (take_least n l))
-
-pub drop_least : (n : ℕ) (l : List ℕ) → drop (min n (length l)) l ≡ drop n l
-drop_least n [] = drop-nil (min n 0) ∙ rw drop-nil
-drop_least zero (x ∷ l) = let e : min 0 (suc (length l)) ≡ 0 = omega arith in rw e
-drop_least (suc n) (x ∷ l) =
-    let e : min (suc n) (suc (length l)) ≡ suc (min n (length l)) = omega arith in
-    rw e (drop_least n l)
 
 -- the part of l from min n (length l) to its end
 pub tail_is : (n : ℕ) (l : List ℕ) (m : ℕ) → m ≡ min n (length l) → take (length l - m) (drop m l) ≡ drop n l
-tail_is n l m e = take_all (length l - m) (drop m l) (rw length-drop (le_refl (length l - m))) ∙ rw (e, drop_least)
-
-pub part_is : (n : ℕ) (l : List ℕ) (m : ℕ) → m ≡ min n (length l) → take m l ≡ take n l
-part_is n l m e = rw (e, take_least)
+tail_is n l m e = take_all (length l - m) (drop m l) (rw length-drop (le_refl (length l - m))) ∙ rw (e, drop_min n l)
 
 -- WORDS
 -- of the bytes from an index on
@@ -49,11 +26,11 @@ pub word_tail : (n : ℕ) (l t : List ℕ) → t ≡ drop n l → word t 0 ≡ w
 word_tail n l t e = rw (e, word_drop, add-zero)
 
 -- from its bytes
-pub joined_tail : (n : ℕ) (l t : List ℕ) {v : ℕ} → v ≡ get_or t 0 0 + 256 * get_or t 1 0 + 65536 * get_or t 2 0 + 16777216 * get_or t 3 0
-    → t ≡ drop n l → v ≡ word l n
-joined_tail n l t e d = e ∙ (unfold word in word_tail n l t d)
+pub word_joined : (l : List ℕ) (k : ℕ) {v : ℕ} → v ≡ from_le_bytes w32 (get_or l k 0 ∷ get_or l (k + 1) 0 ∷ get_or l (k + 2) 0 ∷ get_or l (k + 3) 0 ∷ []) → v ≡ word l k
+unfolding word
+word_joined l k e = omega (arith, e)
 
-pub words_tail : (n : ℕ) (l t : List ℕ) (r : FourWords) → t ≡ drop n l → AreWords t 0 r → AreWords l n r
+pub words_tail : (n : ℕ) (l t r : List ℕ) → t ≡ drop n l → AreWords t 0 r → AreWords l n r
 words_tail n l t r e w = record {
   first = w.first ∙ word_tail n l t e;
   second = w.second ∙ rw (e, word_drop);
@@ -62,7 +39,7 @@ words_tail n l t r e w = record {
 }
 
 -- of a copy onto 16 zeros
-pub words_padded : (z t p : List ℕ) (r : FourWords) → 16 ≤ length z → ((x : ℕ) → x < 16 → get_or z x 0 ≡ 0) → p ≡ copied z 0 t → AreWords p 0 r
+pub words_padded : (z t p r : List ℕ) → 16 ≤ length z → ((x : ℕ) → x < 16 → get_or z x 0 ≡ 0) → p ≡ copied z 0 t → AreWords p 0 r
     → AreWords t 0 r
 unfolding word
 words_padded z t p r h n e w =

@@ -1,11 +1,11 @@
 // Bytes and words read from lent slices: each function answers for any input.
 #![tactic(auto)]
 
-ghost use Rattle.std.specs.Prelude.{◌≡◌, ◌+◌, ◌*◌, ◌≤◌, length, get_or, take, drop};
+ghost use Rattle.std.specs.Prelude.{◌≡◌, ◌≤◌, length, get_or, take, drop};
 ghost use Rattle.notation.specs.Words.{word};
 ghost use Rattle.slices.specs.Words.{AreWords};
 
-// The byte at an index, 0 past the end.
+// The byte at an index, 0 past the end. (`get` gives an Option of a reference, which has another layout on RV32: tools/rv32-forms refuses it.)
 pub fn byte(s: &[u8], at: usize) -> u8
     ensures { result ≡ get_or s.now at 0 }
 {
@@ -16,8 +16,7 @@ pub fn byte(s: &[u8], at: usize) -> u8
 pub fn tail(s: &[u8], at: usize) -> &[u8]
     ensures { result.now ≡ drop at s.now }
 {
-    let from = numbers::least(at, s.len());
-    &s[from..]
+    &s[at.min(s.len())..]
 }
 
 // n bytes from an index on, or as many as there are.
@@ -25,36 +24,24 @@ pub fn part(s: &[u8], from: usize, n: usize) -> &[u8]
     ensures { result.now ≡ take n (drop from s.now) }
 {
     let t = tail(s, from);
-    let m = numbers::least(n, t.len());
-    &t[..m]
+    &t[..n.min(t.len())]
 }
-
-// The word of four bytes, the lowest first.
-fn joined(a: u8, b: u8, c: u8, d: u8) -> u32
-    ensures { result ≡ a + 256 * b + 65536 * c + 16777216 * d }
-{
-    a as u32 + 256 * (b as u32) + 65536 * (c as u32) + 16777216 * (d as u32)
-}
-
-// Four words, one after the other.
-#[derive(Clone, Copy)]
-pub struct FourWords(pub u32, pub u32, pub u32, pub u32);
 
 // The first four words of bytes that have as many.
-fn first_words(s: &[u8]) -> FourWords
+fn first_words(s: &[u8]) -> [u32; 4]
     requires { 16 ≤ length s.now }
     ensures { AreWords s.now 0 result }
 {
-    FourWords(
-        joined(s[0], s[1], s[2], s[3]),
-        joined(s[4], s[5], s[6], s[7]),
-        joined(s[8], s[9], s[10], s[11]),
-        joined(s[12], s[13], s[14], s[15]),
-    )
+    [
+        u32::from_le_bytes([s[0], s[1], s[2], s[3]]),
+        u32::from_le_bytes([s[4], s[5], s[6], s[7]]),
+        u32::from_le_bytes([s[8], s[9], s[10], s[11]]),
+        u32::from_le_bytes([s[12], s[13], s[14], s[15]]),
+    ]
 }
 
 // The first four words of any bytes, by way of a copy with zeros after it, which is read without a test for each byte.
-fn padded_words(s: &[u8]) -> FourWords
+fn padded_words(s: &[u8]) -> [u32; 4]
     ensures { AreWords s.now 0 result }
 {
     let mut padded = [0u8; 16];
@@ -68,14 +55,14 @@ pub fn word(s: &[u8], at: usize) -> u32
 {
     let t = tail(s, at);
     if t.len() < 4 {
-        let words = padded_words(t);
-        return words.0;
+        let [first, ..] = padded_words(t);
+        return first;
     }
-    joined(t[0], t[1], t[2], t[3])
+    u32::from_le_bytes([t[0], t[1], t[2], t[3]])
 }
 
 // The four little-endian words from an index on; bytes past the end count as 0.
-pub fn four_words(s: &[u8], at: usize) -> FourWords
+pub fn four_words(s: &[u8], at: usize) -> [u32; 4]
     ensures { AreWords s.now at result }
 {
     let t = tail(s, at);

@@ -51,6 +51,7 @@ pub fn board(entry_point: u32, kind_word: u32, section_b: u32, region: u32) -> [
 }
 
 // The boot block as 01 gives it.
+#[tactic(auto, unfolding(rules::specs::Examples::small_board))]
 pub fn block() -> [u8; 120]
     ensures { result ≡ small_board }
 {

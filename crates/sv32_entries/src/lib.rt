@@ -2,7 +2,7 @@
 #![tactic(auto)]
 
 ghost use Rattle.std.specs.Prelude.{◌≡◌, ◌+◌, ◌*◌, ◌%◌};
-ghost use Rattle.rules.specs.Entries.{pointer_entry, page_entry, decode, satp_of};
+ghost use Rattle.rules.specs.Entries.{pointer_entry, page_entry, rights_in, decode, satp_of};
 
 use types::{Entry, PhysPage, Rights};
 
@@ -42,47 +42,46 @@ pub fn page_entry(page: PhysPage, rights: Rights) -> u32
     ensures { result ≡ page_entry (page.0 % 0x40_0000) rights }
 {
     let flags = VALID
-        + numbers::flag(rights.read, READ)
-        + numbers::flag(rights.write, WRITE)
-        + numbers::flag(rights.execute, EXECUTE)
-        + numbers::flag(rights.user, USER)
+        + READ * u32::from(rights.read)
+        + WRITE * u32::from(rights.write)
+        + EXECUTE * u32::from(rights.execute)
+        + USER * u32::from(rights.user)
         + ACCESSED
-        + numbers::flag(rights.write, DIRTY);
+        + DIRTY * u32::from(rights.write);
     PPN_WEIGHT * (page.0 % PPN_END) + flags
+}
+
+// The rights that an entry's flags give.
+fn rights_of(e: u32) -> Rights
+    ensures { result ≡ rights_in e }
+{
+    Rights {
+        read: e & READ != 0,
+        write: e & WRITE != 0,
+        execute: e & EXECUTE != 0,
+        user: e & USER != 0,
+    }
 }
 
 // A page table entry as it reads. In a valid entry bits 5 to 9 change nothing.
 pub fn decode(e: u32) -> Entry
     ensures { result ≡ decode e }
 {
-    if e % 2 == 0 {
-        if e == RESERVED {
-            return Entry::Reserved;
-        }
-        return Entry::Absent;
+    let page = PhysPage(e / PPN_WEIGHT);
+    if e == RESERVED {
+        Entry::Reserved
+    } else if e & VALID == 0 {
+        Entry::Absent
+    } else if e & (READ | WRITE | EXECUTE) == 0 {
+        Entry::Pointer(page)
+    } else {
+        Entry::Page(rights_of(e), page)
     }
-    // Read, write and execute, of weights 2, 4 and 8, are clear.
-    if e / 2 % 8 == 0 {
-        return Entry::Pointer(PhysPage(e / PPN_WEIGHT));
-    }
-    let read = numbers::bit(e, READ);
-    let write = numbers::bit(e, WRITE);
-    let execute = numbers::bit(e, EXECUTE);
-    let user = numbers::bit(e, USER);
-    Entry::Page(
-        Rights {
-            read,
-            write,
-            execute,
-            user,
-        },
-        PhysPage(e / PPN_WEIGHT),
-    )
 }
 
 // The satp word of an address space: mode Sv32, process q as its number (ASID), the page of its root table. Modulo 2^32.
 pub fn satp_word(q: u32, root: PhysPage) -> u32
     ensures { result ≡ satp_of q root.0 % 0x1_0000_0000 }
 {
-    ((0x8000_0000 + 0x40_0000 * (q as u64) + root.0 as u64) % 0x1_0000_0000) as u32
+    ((0x8000_0000 + 0x40_0000 * u64::from(q) + u64::from(root.0)) % 0x1_0000_0000) as u32
 }

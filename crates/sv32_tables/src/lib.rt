@@ -21,7 +21,7 @@ fn nth_page(first: PhysPage, rises: bool, n: usize) -> PhysPage
     if rises {
         return PhysPage(((start + n) % 0x40_0000) as u32);
     }
-    PhysPage(numbers::minus(start, n) as u32)
+    PhysPage(start.saturating_sub(n) as u32)
 }
 
 // Maps the virtual pages `from` to `to` that lie in the leaf table for root slot `slot`: `from` to physical page `first`,
@@ -39,12 +39,9 @@ pub fn map_pages(
 {
     let base = (TABLE_ENTRIES as usize) * (slot as usize);
     let start = from.0 as usize;
-    let past = numbers::minus(to.0 as usize + 1, base);
-    let end = numbers::least(past, entries.len());
-    let mut i = numbers::minus(start, base);
-    while i < end {
+    let past = (to.0 as usize + 1).saturating_sub(base);
+    for i in start.saturating_sub(base)..past.min(entries.len()) {
         entries[i] = page_entry(nth_page(first, rises, base + i - start), rights);
-        i += 1;
     }
 }
 
@@ -54,13 +51,10 @@ pub fn reserve_stack(entries: &mut [u32], slot: u32, pages: u32)
     ensures { entries.new ≡ stack_reserved entries.old slot pages }
 {
     let base = (TABLE_ENTRIES as usize) * (slot as usize);
-    let first = numbers::minus(STACK_END, pages as usize);
-    let end = numbers::least(numbers::minus(STACK_END, base), entries.len());
-    let mut i = numbers::minus(first, base);
-    while i < end {
-        entries[i] = RESERVED;
-        i += 1;
-    }
+    let first = STACK_END.saturating_sub(pages as usize);
+    let end = STACK_END.saturating_sub(base).min(entries.len());
+    let start = first.saturating_sub(base).min(end);
+    entries[start..end].fill(RESERVED);
 }
 
 // Points a root table's slot to the leaf table at physical page `leaf`. A slot past the table's end is none.
@@ -68,6 +62,7 @@ pub fn point_to_leaf(entries: &mut [u32], slot: u32, leaf: PhysPage)
     ensures { entries.new ≡ set entries.old slot (pointer_entry (leaf.0 % 0x40_0000)) }
 {
     let m = slot as usize;
+    // By index: after `get_mut` a proof knows no entry of the table.
     if m < entries.len() {
         entries[m] = pointer_entry(leaf);
     }

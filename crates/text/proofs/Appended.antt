@@ -1,19 +1,16 @@
 -- Texts put one after the other.
-use mathlib.Core.Path.{◌≡◌, refl, sym, ap, ◌∙◌}
-use mathlib.Core.List.{List, [], ◌++◌}
-use Prim.Native.Nat.{ℕ, ◌+◌, ◌-◌, ◌^◌, ◌≤◌, ◌<◌, min}
+use Rattle.std.proofs.Common.{◌≡◌, refl, sym, ap, ◌∙◌, List, [], ◌++◌, arith, ltb, length, get_or, length-append, ext_get_or, lt-ltb, le-ltb, le-leb, ℕ, ◌+◌, ◌-◌, ◌^◌, ◌≤◌, ◌<◌, min}
 use native.Mathlib.Nat.{pow-le-pow_right}
 use native.Mathlib.Decide.{dec_lt}
-use native.Mathlib.Omega.{arith}
-use lib.Dec.{ltb}
-use lib.ListN.{length, get_or, length-append, get_or-append}
-use lib.Seq.{ext_get_or}
-use borrow.Author.Tests.{lt-ltb, le-ltb, le-leb, lt-leb}
+use lib.ListN.{get_or-append}
+use borrow.Author.Tests.{lt-leb}
 use Rattle.io.specs.Digits.{last_digits, IsDigitCount}
 use Rattle.laws.specs.Choice.{choose_yes, choose_no}
 use Rattle.laws.specs.Lists.{tab_length, tab_get, append_get_right, first_at_tab}
 use Rattle.stores.specs.Writes.{copied}
 use Rattle.text.specs.Text.{Appended, places, numeral}
+use Rattle.text.specs.Puts.{Puts}
+use Rattle.text.specs.declared.Out.{Out}
 
 -- COPIED
 copied_length : (d : List ℕ) (at : ℕ) (s : List ℕ) → length (copied d at s) ≡ length d
@@ -74,6 +71,31 @@ appended_then {xs} {ys} {zs} {at} {m} {r} {s} {t} p q =
       bytes_are = q.bytes_are ∙ rw p.bytes_are (copied_then xs at s t m p.end_is);
       end_is = omega (arith, p.end_is, q.end_is, length-append s t);
     }
+
+-- an index past the end is as the end
+pub appended_at : (xs ys : List ℕ) (at e : ℕ) (t : List ℕ) {r : ℕ} → e ≡ min at (length xs) → Appended xs e t ys r → Appended xs at t ys r
+appended_at xs ys at e t {r} h p = record {
+  bytes_are = p.bytes_are ∙ ext_get_or 0 (copied xs e t) (copied xs at t) (copied_length xs e t ∙ sym (copied_length xs at t)) (λ k l.
+      let g : k < length xs = omega (arith, copied_length xs e t) in
+      elim (dec_lt at (length xs)) [
+        | yes s ↦ let same : e ≡ at = omega arith in rw same refl
+        | no s ↦ copied_below xs e t k g (omega arith) ∙ sym (copied_below xs at t k g (omega arith))
+      ]);
+  end_is = omega (arith, p.end_is);
+}
+
+-- PUTS
+pub puts_none : (o : Out) → Puts o [] o
+puts_none o = record {
+  same_buffer = refl;
+  appended = appended_none _ _ _ (omega (arith, o.in_buffer));
+}
+
+pub puts_then : {old mid new : Out} {s t : List ℕ} → Puts old s mid → Puts mid t new → Puts old (s ++ t) new
+puts_then p q = record {
+  same_buffer = q.same_buffer ∙ p.same_buffer;
+  appended = appended_then p.appended q.appended;
+}
 
 -- NUMERAL
 places_is : (b n k : ℕ) → 0 < b → n < b ^ 20 → IsDigitCount b 1 n k → places b n ≡ k

@@ -1,51 +1,66 @@
-// Text put into a lent buffer at an index, as much as there is room for. Each function answers the index after what it put.
+// Text put into a lent buffer, as much as there is room for.
 #![tactic(auto)]
 
-ghost use Rattle.text.specs.Text.{Appended, numeral, two_numbers};
+ghost use Rattle.std.specs.Prelude.{◌≡◌, ◌≤◌, length};
+ghost use Rattle.text.specs.Text.{numeral, two_numbers};
 
-// Bytes as they are.
-pub fn put(to: &mut [u8], at: usize, text: &[u8]) -> usize
-    ensures { Appended to.old at text.now to.new result }
-{
-    let room = numbers::minus(to.len(), at);
-    let end = numbers::least(at, to.len()) + numbers::least(text.len(), room);
-    stores::copy_in(to, at, text);
-    end
+// A lent buffer, and where the text in it ends: what is put begins there.
+#[derive(Drop)]
+pub struct Out<'a> {
+    pub buffer: &'a mut [u8],
+    pub end: usize,
+    ghost in_buffer: { end ≤ length buffer.now },
 }
 
-// A number in decimal.
-pub fn put_decimal(to: &mut [u8], at: usize, n: u64) -> usize
-    ensures { Appended to.old at (numeral 10 n) to.new result }
-{
-    let mut digits = [0u8; 20];
-    let count = io::decimal(n, &mut digits);
-    put(to, at, &digits[..count])
-}
+impl<'a> Out<'a> {
+    ghost use Rattle.text.specs.Puts.{Puts};
 
-// A number in hexadecimal, small letters, no leading zeros.
-pub fn put_hex(to: &mut [u8], at: usize, n: u64) -> usize
-    ensures { Appended to.old at (numeral 16 n) to.new result }
-{
-    let mut digits = [0u8; 16];
-    let count = io::hex(n, 1, &mut digits);
-    put(to, at, &digits[..count])
-}
+    // A buffer with no text in it yet.
+    pub fn new(buffer: &'a mut [u8]) -> Out<'a>
+        ensures same_buffer { result.buffer.ghost_name ≡ buffer.entry.ghost_name }
+        ensures same_bytes { result.buffer.now ≡ buffer.old }
+        ensures empty { result.end ≡ 0 }
+    {
+        Out { buffer, end: 0 }
+    }
 
-// A text with two numbers in it.
-pub fn put_two_numbers(
-    to: &mut [u8],
-    at: usize,
-    before: &[u8],
-    n: u64,
-    between: &[u8],
-    m: u64,
-    after: &[u8],
-) -> usize
-    ensures { Appended to.old at (two_numbers before.now n between.now m after.now) to.new result }
-{
-    let first = put(to, at, before);
-    let middle = put_decimal(to, first, n);
-    let second = put(to, middle, between);
-    let last = put_decimal(to, second, m);
-    put(to, last, after)
+    // Bytes as they are.
+    pub fn put(&mut self, text: &[u8])
+        ensures { Puts self.old text.now self.new }
+    {
+        let at = self.end;
+        let room = self.buffer.len() - at;
+        self.end = at + text.len().min(room);
+        let buffer = &mut *self.buffer;
+        stores::copy_in(buffer, at, text);
+    }
+
+    // A number in decimal.
+    pub fn put_decimal(&mut self, n: u64)
+        ensures { Puts self.old (numeral 10 n) self.new }
+    {
+        let mut digits = [0u8; 20];
+        let count = io::decimal(n, &mut digits);
+        self.put(&digits[..count]);
+    }
+
+    // A number in hexadecimal, small letters, no leading zeros.
+    pub fn put_hex(&mut self, n: u64)
+        ensures { Puts self.old (numeral 16 n) self.new }
+    {
+        let mut digits = [0u8; 16];
+        let count = io::hex(n, 1, &mut digits);
+        self.put(&digits[..count]);
+    }
+
+    // A text with two numbers in it.
+    pub fn put_two_numbers(&mut self, before: &[u8], n: u64, between: &[u8], m: u64, after: &[u8])
+        ensures { Puts self.old (two_numbers before.now n between.now m after.now) self.new }
+    {
+        self.put(before);
+        self.put_decimal(n);
+        self.put(between);
+        self.put_decimal(m);
+        self.put(after);
+    }
 }

@@ -1,13 +1,9 @@
 -- The promises of one call and of two, from the theorems.
-use mathlib.Core.Path.{◌≡◌, sym, ap, ◌∙◌}
-use mathlib.Core.Bool.{true, ◌&&◌}
-use mathlib.Core.List.{List}
+use Rattle.std.proofs.Common.{◌≡◌, Option, Some, None, Result, sym, ap, ◌∙◌, true, ◌&&◌, List, eqb, eq-eqb, eqb-true, le-leb}
 use Prim.Native.Nat.{ℕ, ◌≤◌, ◌<◌}
-use lib.Dec.{eqb}
-use borrow.Author.Tests.{eq-eqb, eqb-true, le-leb}
 use Rattle.notation.specs.Choice.{choose}
 use Rattle.types.specs.declared.PhysPage.{PhysPage}
-use Rattle.types.specs.declared.Answer.{Answer}
+use Rattle.rules.specs.Answers.{Answer}
 use Rattle.types.specs.declared.View.{View}
 use Rattle.rules.specs.Lent.{Image, Memory, memory_of, memory_area}
 use Rattle.rules.specs.Block.{process_count}
@@ -18,8 +14,9 @@ use Rattle.laws.specs.Choice.{and_both, choose_yes, choose_map}
 use Rattle.accepted.specs.NoCause.{answer_number}
 use Rattle.demands.specs.Demand2.{sees_what_the_rules_give, sees_exactly, stack_seen, flash_byte_seen, one_owner_one_virtual_page, pages_add_up}
 use Rattle.demands.specs.Demand3.{SameOnBoth, boots_on_larger_ram, same_on_both}
-use Rattle.order_roots.specs.declared.Root.{Root}
-use Rattle.order_roots.specs.declared.Root.TheVariants.{At}
+use Rattle.refusals.specs.declared.Boot.{Boot}
+use Rattle.refusals.specs.declared.Refused.{Refused}
+use Rattle.refusals.specs.Answers.{answer_of}
 use Rattle.order_roots.specs.Roots.{is_process, root_found}
 use Rattle.two_boards.specs.declared.Board.{Board}
 use Rattle.two_boards.specs.Promise.{seen_at, seen_after, OneBoard, TwoBoards}
@@ -28,16 +25,16 @@ is_process_lem : (b : List ℕ) (q : ℕ) → 1 ≤ q → q ≤ process_count b 
 unfolding is_process
 is_process_lem b q lo hi = rw (le-leb 1 q lo, le-leb q (process_count b) hi)
 
-pub seen_by_way : (root : Root) (P : PhysPage) (ram flash : Memory) (a : ℕ) {v : View} → root ≡ At P → v ≡ seen_from ram flash P.0 a → v ≡ seen_at root ram flash a
+pub seen_by_way : (root : Option PhysPage) (P : PhysPage) (ram flash : Memory) (a : ℕ) {v : View} → root ≡ Some P → v ≡ seen_from ram flash P.0 a → v ≡ seen_at root ram flash a
 seen_by_way root P ram flash a e s = rw e s
 
 module _ (x : Image) (r : Memory) where
   -- the root that was found, and what is seen by way of it
-  found_seen : (exit : List ℕ) (q a : ℕ) (root : Root) → root ≡ root_found x (memory_area r) q → exit ≡ ram_after x r
+  found_seen : (exit : List ℕ) (q a : ℕ) (root : Option PhysPage) → root ≡ root_found x (memory_area r) q → exit ≡ ram_after x r
       → seen_at root (memory_of r.start exit) x.flash a ≡ seen_after x r q a
   unfolding root_found seen_after boots process_sees root_of
   found_seen exit q a root e l =
-      rw (e, l) (choose_map (λ (x' : Root). seen_at x' (after x r) x.flash a) (eqb (verdict x (memory_area r)).number 0 && is_process x.block q) _ _)
+      rw (e, l) (choose_map (λ (x' : Option PhysPage). seen_at x' (after x r) x.flash a) (eqb (verdict x (memory_area r)).number 0 && is_process x.block q) _ _)
 
   boots_number : boots x r ≡ true → (verdict x (memory_area r)).number ≡ 0
   unfolding boots
@@ -52,8 +49,8 @@ module _ (x : Image) (r : Memory) where
     unfolding boots
     booted z = eq-eqb _ 0 (sym number_of ∙ z)
 
-pub one_board : (x : Image) (r : Memory) (exit : List ℕ) (q a : ℕ) (root : Root) (full : Answer) (seen : View) → a < 0x1_0000_0000
-    → root ≡ root_found x (memory_area r) q → full ≡ answer x r → exit ≡ ram_after x r → seen ≡ seen_at root (memory_of r.start exit) x.flash a
+pub one_board : (x : Image) (r : Memory) (exit : List ℕ) (q a : ℕ) (root : Option PhysPage) (full : Result Boot Refused) (seen : View) → a < 0x1_0000_0000
+    → root ≡ root_found x (memory_area r) q → answer_of full ≡ answer x r → exit ≡ ram_after x r → seen ≡ seen_at root (memory_of r.start exit) x.flash a
     → OneBoard x r exit q a (record { answer = full; seen = seen })
 unfolding seen_after
 one_board x r exit q a root full seen h er ea ex es =
@@ -63,7 +60,7 @@ one_board x r exit q a root full seen h er ea ex es =
       leaves = ex;
       shows = s;
       demand_2 = λ z.
-          let e : boots x r ≡ true = booted x r full ea z in
+          let e : boots x r ≡ true = booted x r (answer_of full) ea z in
           let p : 1 ≤ q → q ≤ process_count x.block → seen ≡ process_sees x r q a
           = λ lo hi. s ∙ choose_yes _ _ (and_both e (is_process_lem x.block q lo hi)) in
           record {
@@ -84,8 +81,8 @@ two_boards x r r' exit exit' q a one two h o t = record {
   first = o;
   second = t;
   demand_3 = λ z l no-1 no-11 no-13.
-      let e : boots x r ≡ true = booted x r one.answer o.answers z in
-      let n : two.answer.number ≡ (verdict x (memory_area r')).number = number_of x r' two.answer t.answers in
+      let e : boots x r ≡ true = booted x r (answer_of one.answer) o.answers z in
+      let n : (answer_of two.answer).number ≡ (verdict x (memory_area r')).number = number_of x r' (answer_of two.answer) t.answers in
       let e' : boots x r' ≡ true = boots_on_larger_ram x r r' e l (λ y. no-1 (n ∙ y)) (λ y. no-11 (n ∙ y)) (λ y. no-13 (n ∙ y)) in
       let s : SameOnBoth x r r' = same_on_both x r r' e e' l in (
         n ∙ boots_number x r' e',

@@ -1,6 +1,6 @@
 -- DEMANDS 2 AND 3 of the code: what one call of the loader, and two calls with the same block and flash at one address, each on a RAM of
 -- its own, promise for process q at address a.
-use Rattle.std.specs.Prelude.{◌≡◌, ◌≢◌, ◌&&◌, List, ℕ, ◌-◌, ◌≤◌, ◌<◌}
+use Rattle.std.specs.Prelude.{◌≡◌, ◌≢◌, ◌&&◌, List, ℕ, ◌-◌, ◌≤◌, ◌<◌, Option, Some, None}
 use Rattle.notation.specs.Choice.{choose}
 use Rattle.types.specs.declared.PhysPage.{PhysPage}
 use Rattle.types.specs.declared.Rights.{Rights}
@@ -16,16 +16,15 @@ use Rattle.rules.specs.Sees.{sees_on, seen_from, root_of, process_sees}
 use Rattle.rules.specs.Compare.{compared, Agree}
 use Rattle.demands.specs.Exactly.{Exactly, StackReservation}
 use Rattle.demands.specs.Demand2.{OneOwnerEach, InRamOrFlash, FlashByte, AddUp}
-use Rattle.order_roots.specs.declared.Root.{Root}
-use Rattle.order_roots.specs.declared.Root.TheVariants.{Nowhere, At}
+use Rattle.refusals.specs.Answers.{answer_of}
 use Rattle.order_roots.specs.Roots.{is_process}
 use Rattle.two_boards.specs.declared.Board.{Board}
 use Rattle.two_boards.specs.declared.Boards.{Boards}
 
 -- what is seen by way of a root, or nothing
-abbrev pub seen_at : Root → Memory → Memory → ℕ → View
-seen_at Nowhere ram flash a = Absent
-seen_at (At P) ram flash a = seen_from ram flash P.0 a
+abbrev pub seen_at : Option PhysPage → Memory → Memory → ℕ → View
+seen_at None ram flash a = Absent
+seen_at (Some P) ram flash a = seen_from ram flash P.0 a
 
 -- what process q sees after a call that boots; nothing where it is refused or there is no such process
 unfoldable pub seen_after : Image → Memory → ℕ → ℕ → View
@@ -46,23 +45,23 @@ pub record Demand2 (x : Image) (r : Memory) (exit : List ℕ) (q a : ℕ) (o : B
   -- a page that any process reaches at any address lies in RAM, or in flash, read-only
   pub in_ram_or_flash : (q' a' : ℕ) → 1 ≤ q' → q' ≤ process_count x.block → a' < 0x1_0000_0000 → (t : Rights) (P : PhysPage) → walk (memory_of r.start exit) (root_of x r q') a' ≡ Page t P → InRamOrFlash x (memory_of r.start exit) t P
   -- owners' pages and free pages add up to RAM, and are the answer's
-  pub pages : AddUp x (pages_in (memory_area r)).pages o.answer
+  pub pages : AddUp x (pages_in (memory_area r)).pages (answer_of o.answer)
 
 -- one call: its answer, RAM after it, and what process q sees at address a; and demand 2 where it boots
 pub record OneBoard (x : Image) (r : Memory) (exit : List ℕ) (q a : ℕ) (o : Board) : Type 0 where
-  pub answers : o.answer ≡ answer x r
+  pub answers : answer_of o.answer ≡ answer x r
   pub leaves : exit ≡ ram_after x r
   pub shows : o.seen ≡ seen_after x r q a
-  pub demand_2 : o.answer.number ≡ 0 → Demand2 x r exit q a o
+  pub demand_2 : (answer_of o.answer).number ≡ 0 → Demand2 x r exit q a o
 
 -- both calls; and where the first boots, and the second RAM has as many pages or more and draws none of 1, 11 and 13, the second
 -- boots, process q sees the same on both, in all that is compared, and pages taken less tracker pages is the same number (demand 3)
 pub record TwoBoards (x : Image) (r r' : Memory) (exit exit' : List ℕ) (q a : ℕ) (o : Boards) : Type 0 where
   pub first : OneBoard x r exit q a o.first
   pub second : OneBoard x r' exit' q a o.second
-  pub demand_3 : o.first.answer.number ≡ 0 → (pages_in (memory_area r)).pages ≤ (pages_in (memory_area r')).pages
-      → o.second.answer.number ≢ 1 → o.second.answer.number ≢ 11 → o.second.answer.number ≢ 13
-      → (o.second.answer.number ≡ 0)
+  pub demand_3 : (answer_of o.first.answer).number ≡ 0 → (pages_in (memory_area r)).pages ≤ (pages_in (memory_area r')).pages
+      → (answer_of o.second.answer).number ≢ 1 → (answer_of o.second.answer).number ≢ 11 → (answer_of o.second.answer).number ≢ 13
+      → ((answer_of o.second.answer).number ≡ 0)
       × (1 ≤ q → q ≤ process_count x.block
       → Agree (compared x.block (tracker_pages x.block (pages_in (memory_area r)).pages) (tracker_pages x.block (pages_in (memory_area r')).pages) a) o.first.seen o.second.seen)
-      × (o.first.answer.taken - o.first.answer.tracker ≡ o.second.answer.taken - o.second.answer.tracker)
+      × ((answer_of o.first.answer).taken - (answer_of o.first.answer).tracker ≡ (answer_of o.second.answer).taken - (answer_of o.second.answer).tracker)

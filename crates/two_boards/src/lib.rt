@@ -2,16 +2,18 @@
 #![tactic(auto)]
 
 ghost use Rattle.std.specs.Prelude.{◌≡◌};
-ghost use Rattle.rules.specs.Lent.{image_of, memory_of};
+ghost use Rattle.rules.specs.Lent.{memory_of};
+ghost use Rattle.lent.specs.Lent.{memory, image as lent_image};
 ghost use Rattle.two_boards.specs.Promise.{seen_at, OneBoard, TwoBoards};
 
-use order_roots::Root;
-use types::{Answer, View};
+use lent::{Image, Memory};
+use refusals::{Boot, Refused};
+use types::{Area, PhysPage, View};
 
 // The answer of a call, and what the process sees at the address after it.
 #[derive(Clone, Copy)]
 pub struct Board {
-    pub answer: Answer,
+    pub answer: Result<Boot, Refused>,
     pub seen: View,
 }
 
@@ -22,46 +24,34 @@ pub struct Boards {
 }
 
 // What is seen by way of a root, or nothing.
-fn seen_at<'a>(
-    root: Root,
-    ram: &'a [u8],
-    start: u32,
-    flash: &'a [u8],
-    flash_start: u32,
-    address: u32,
-) -> View
-    ensures { result ≡ seen_at root (memory_of start ram.now) (memory_of flash_start flash.now) address }
+fn seen_at(root: Option<PhysPage>, ram: Memory<'_>, flash: Memory<'_>, address: u32) -> View
+    ensures { result ≡ seen_at root (memory ram.entry) (memory flash.entry) address }
 {
     match root {
-        Root::Nowhere => View::Absent,
-        Root::At(page) => sv32_views::seen_from(ram, start, flash, flash_start, page, address),
+        None => View::Absent,
+        Some(page) => sv32_views::seen_from(ram, flash, page, address),
     }
 }
 
-// Loads block and flash, at physical address `flash_start`, into RAM, and asks what process q sees at an address. Its root is found by
-// the order of pages.
-pub fn boot_one(
-    block: &[u8],
-    flash: &[u8],
-    flash_start: u32,
-    ram: &mut [u8],
-    start: u32,
-    q: u32,
-    address: u32,
-) -> Board
-    ensures { OneBoard (image_of block.now flash_start flash.now) (memory_of start ram.old) ram.new q address result }
+// Loads `image` into RAM, which starts at physical address `start`, and asks what process q sees at an address. Its root is found by the
+// order of pages.
+pub fn boot_one(image: Image<'_>, ram: &mut [u8], start: u32, q: u32, address: u32) -> Board
+    ensures { OneBoard (lent_image image.entry) (memory_of start ram.old) ram.new q address result }
 {
-    let root = order_roots::find_root(block, flash, flash_start, start, ram.len(), q);
-    let answer = loader::load(block, flash, flash_start, ram, start);
-    let seen = seen_at(root, ram, start, flash, flash_start, address);
+    let area = Area {
+        start,
+        length: ram.len(),
+    };
+    let root = order_roots::find_root(image, area, q);
+    let answer = loader::load(image, ram, start);
+    let loaded = Memory { start, bytes: ram };
+    let seen = seen_at(root, loaded, image.flash, address);
     Board { answer, seen }
 }
 
-// Loads the same block and flash into two RAMs, and asks on both what process q sees at an address.
+// Loads `image` into two RAMs, and asks on both what process q sees at an address.
 pub fn boot_both(
-    block: &[u8],
-    flash: &[u8],
-    flash_start: u32,
+    image: Image<'_>,
     ram: &mut [u8],
     start: u32,
     second_ram: &mut [u8],
@@ -69,17 +59,9 @@ pub fn boot_both(
     q: u32,
     address: u32,
 ) -> Boards
-    ensures { TwoBoards (image_of block.now flash_start flash.now) (memory_of start ram.old) (memory_of second_start second_ram.old) ram.new second_ram.new q address result }
+    ensures { TwoBoards (lent_image image.entry) (memory_of start ram.old) (memory_of second_start second_ram.old) ram.new second_ram.new q address result }
 {
-    let first = boot_one(block, flash, flash_start, ram, start, q, address);
-    let second = boot_one(
-        block,
-        flash,
-        flash_start,
-        second_ram,
-        second_start,
-        q,
-        address,
-    );
+    let first = boot_one(image, ram, start, q, address);
+    let second = boot_one(image, second_ram, second_start, q, address);
     Boards { first, second }
 }

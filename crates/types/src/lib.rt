@@ -80,39 +80,3 @@ pub struct Process {
     pub sections: u32,
     pub kind_word: u32,
 }
-
-// What the check of one record returns: the number of the refusal, or 0, and the record's byte offset in the block.
-#[derive(Clone, Copy)]
-pub struct RecordCheck {
-    pub number: u32,
-    pub offset: usize,
-}
-
-// Number, place and offset 0: it boots. Else the number of the refusal, its place, which is the record it was found at, counted from 0,
-// and that record's byte offset in the block; both 0 where it is of no record.
-#[derive(Clone, Copy)]
-pub struct Verdict {
-    pub number: u32,
-    pub place: u32,
-    pub offset: u32,
-}
-
-// The full answer of the loader: number, place and offset as in a verdict. In a refusal the three counts are 0.
-#[derive(Clone, Copy)]
-pub struct Answer {
-    pub number: u32,
-    pub place: u32,
-    pub taken: u32,
-    pub free: u32,
-    pub tracker: u32,
-    pub offset: u32,
-}
-
-// The answer of the block writer: number, place and offset as in a verdict, and the length of the block; in a refusal it is 0.
-#[derive(Clone, Copy)]
-pub struct Written {
-    pub number: u32,
-    pub place: u32,
-    pub length: u32,
-    pub offset: u32,
-}

@@ -1,13 +1,8 @@
 -- Stored words as writes to a stretch of a list.
-use mathlib.Core.Path.{◌≡◌, refl, sym, ◌∙◌}
-use mathlib.Core.Bool.{◌&&◌}
-use mathlib.Core.List.{List, [], ◌∷◌}
-use Prim.Native.Nat.{ℕ, ◌+◌, ◌-◌, ◌*◌, ◌/◌, ◌%◌, ◌≤◌, ◌<◌, min}
-use native.Mathlib.Nat.{div-one, sub-zero}
-use native.Mathlib.Omega.{arith}
-use lib.Dec.{leb, ltb}
-use lib.ListN.{length, get_or, set}
-use borrow.Author.Tests.{le-leb, lt-leb}
+use Rattle.std.specs.Prelude.{◌≡◌, refl, ◌&&◌, List, ℕ, zero, suc, ◌+◌, ◌-◌, ◌*◌, ◌/◌, ◌%◌, ◌≤◌, ◌<◌, min, length, get_or, leb, ltb}
+use Rattle.std.specs.Int.{to_le_bytes, w32}
+use Rattle.std.proofs.Common.{◌∙◌, sym, arith, div-one, set, le-leb}
+use Rattle.std.proofs.lemmas.Bool.{lt-leb}
 use Rattle.notation.specs.Words.{byte_of}
 use Rattle.stores.specs.Writes.{copied}
 use Rattle.stores.proofs.Written.{Written, Between, written_none, written_more, written_then, written_same, between, below_bound, chosen_is, chosen_written, copy_of, copied_written}
@@ -38,18 +33,24 @@ with_word_none d at w h = sym (chosen_is {f = word_of at w} (written_none (word_
   high = λ k l m. rw (lt-leb (at + 4) (length d) h);
 }))
 
--- byte by byte
-pub with_word_stored : (d : List ℕ) (at w : ℕ)
-    → at + 4 ≤ length d
-    → set (set (set (set d at (w % 256)) (at + 1) (w / 256 % 256)) (at + 2) (w / 65536 % 256)) (at + 3) (w / 16777216 % 256) ≡ with_word d at w
+-- byte k of the bytes of a word
+byte_of_word : (w k : ℕ) → k < 4 → get_or (to_le_bytes w32 w) k 0 ≡ byte_of w k
 unfolding byte_of
-with_word_stored d at w h =
-    let f : ℕ → ℕ = word_of at w in
-    let byte : (c k : ℕ) → k ≡ at + c → f k ≡ byte_of w c = λ c k e. let z : k - at ≡ c = omega arith in rw z in
-    let w₁ = written_more (written_none f at at d refl) (at + 1) refl (rw div-one at (sym (byte 0 at (omega arith)))) (omega arith) in
-    let w₂ = written_more w₁ (at + 2) (omega arith) (sym (byte 1 (at + 1) refl)) (omega arith) in
-    let w₃ = written_more w₂ (at + 3) (omega arith) (sym (byte 2 (at + 2) refl)) (omega arith) in
-    with_word_is w (written_more w₃ (at + 4) (omega arith) (sym (byte 3 (at + 3) refl)) (omega arith)) h
+byte_of_word w zero h = rw div-one
+byte_of_word w (suc zero) h = refl
+byte_of_word w (suc (suc zero)) h = refl
+byte_of_word w (suc (suc (suc zero))) h = refl
+byte_of_word w (suc (suc (suc (suc k)))) h = absurd (omega arith)
+
+-- byte by byte
+pub with_word_stored : (d : List ℕ) (at w : ℕ) {r : List ℕ} → at + 4 ≤ length d → r ≡ to_le_bytes w32 w
+    → set (set (set (set d at (get_or r 0 0)) (at + 1) (get_or r 1 0)) (at + 2) (get_or r 2 0)) (at + 3) (get_or r 3 0) ≡ with_word d at w
+with_word_stored d at w {r} h e =
+    let byte : (c k : ℕ) → k ≡ at + c → c < 4 → get_or r c 0 ≡ word_of at w k = λ c k j l. let z : k - at ≡ c = omega arith in rw (e, z) (byte_of_word w c l) in
+    let w₁ = written_more (written_none (word_of at w) at at d refl) (at + 1) refl (byte 0 at (omega arith) (omega arith)) (omega arith) in
+    let w₂ = written_more w₁ (at + 2) (omega arith) (byte 1 (at + 1) refl (omega arith)) (omega arith) in
+    let w₃ = written_more w₂ (at + 3) (omega arith) (byte 2 (at + 2) refl (omega arith)) (omega arith) in
+    with_word_is w (written_more w₃ (at + 4) (omega arith) (byte 3 (at + 3) refl (omega arith)) (omega arith)) h
 
 -- WITH-WORDS
 -- index k of the words ws from index 0 on
@@ -73,17 +74,14 @@ with_words_more {d₀} {d} ws i v e h =
     rw (e, m) (written_then v (written_same w (word_of_words ws i)) (omega arith) (omega arith))
 
 -- as much of the next word as there is room for
-pub with_words_rest : {d₀ d e b : List ℕ} {a : ℕ} (ws : List ℕ) (i : ℕ) → Written (words_of ws) 0 a d₀ d
-    → a ≡ 4 * i
-    → b ≡ with_word (0 ∷ 0 ∷ 0 ∷ 0 ∷ []) 0 (get_or ws i 0)
+pub with_words_rest : {d₀ d e b : List ℕ} (ws : List ℕ) (i : ℕ) → Written (words_of ws) 0 (4 * i) d₀ d
+    → b ≡ to_le_bytes w32 (get_or ws i 0)
     → e ≡ copied d (4 * i) b
     → Written (words_of ws) 0 (4 * i + 4) d₀ e
-with_words_rest {d₀} {d} {e} {b} ws i v r p q =
-    let u = with_word_written (0 ∷ 0 ∷ 0 ∷ 0 ∷ []) 0 (get_or ws i 0) (omega arith) in
-    let n : length b ≡ 4 = rw p u.size in
-    let byte : (k : ℕ) → k < 4 → get_or b k 0 ≡ byte_of (get_or ws i 0) k = λ k m. rw p (rw sub-zero at (u.inside k (omega arith) m m)) in
+with_words_rest {d₀} {d} {e} {b} ws i v p q =
+    let n : length b ≡ 4 = rw p refl in
     let w : Written (copy_of (4 * i) b) (4 * i) (4 * i + 4) d e = rw q (rw n at (copied_written d (4 * i) b)) in
-    written_then (rw r at v) (written_same w (λ k l m. byte (k - 4 * i) (omega arith) ∙ word_of_words ws i k l m)) (omega arith) (omega arith)
+    written_then v (written_same w (λ k l m. rw p (byte_of_word (get_or ws i 0) (k - 4 * i) (omega arith)) ∙ word_of_words ws i k l m)) (omega arith) (omega arith)
 
 pub with_words_is : {d₀ d : List ℕ} {b : ℕ} (ws : List ℕ) → Written (words_of ws) 0 b d₀ d → min b (length d₀) ≡ min (4 * length ws) (length d₀) → d ≡ with_words d₀ ws
 unfolding with_words

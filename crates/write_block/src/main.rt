@@ -2,89 +2,30 @@
 // prints how it is called. What is wrong is said in one line on standard error: no file is made then, and BLOCK keeps its bytes.
 #![tactic(auto)]
 
-ghost use Rattle.std.specs.Prelude.{◌≡◌, ◌≤◌, length, IfOk};
-
-use std::env::{Env, FillError};
+use command_line::{Complained, Program};
 use std::fs::OpenOptions;
-use std::io::{ErrorKind, Read, Seek, SeekFrom, Write};
-use std::{fs, io, str};
+use std::io::{ErrorKind, Seek, SeekFrom, Write};
+use std::{fs, io};
 
-// The bytes of a file, put at the start of a buffer; or the file is longer than the buffer.
-#[derive(Clone, Copy)]
-enum File {
-    Whole(usize),
-    Longer,
-}
+// A text's bytes at most.
+const TEXT: usize = 262144;
 
-fn complain(rt: &HostRuntime, line: &[u8]) {
-    // Where that fails too, there is no place left to say so.
-    let _ = rt.stderr().write_all(line);
-}
+// A block's bytes at most.
+const BLOCK: usize = 1568;
 
-// What std writes after the system's words for an error, as in "Is a directory (os error 21)".
-const AFTER: &str = " (os error ";
+const USAGE: &str = "write_block RECORDS BLOCK";
 
-// Says what failed, and why, in the system's words alone.
-fn fail(rt: &HostRuntime, what: &[u8], error: io::Error) {
-    let mut text = [0u8; 320];
-    let mut rest: &mut [u8] = &mut text;
-    // An error that is not the system's has nothing after its words.
-    let _ = write!(rest, "{error}{AFTER}");
-    let line = str::from_utf8(&text).unwrap_or("");
-    let words = line.split_once(AFTER).map_or(line, |(words, _)| words);
-    complain(rt, what);
-    complain(rt, b": ");
-    complain(rt, words.as_bytes());
-    complain(rt, b"\n");
-}
-
-// Prints, or says why not.
-fn print(rt: &HostRuntime, text: &[u8]) {
-    if let Err(error) = rt.write_all(text) {
-        fail(rt, b"write_block: standard output", error);
-    }
-}
-
-// Says what is wrong with a file, by the name it was given.
-fn fail_on(rt: &HostRuntime, name: &str, error: io::Error) {
-    complain(rt, b"write_block: ");
-    if name.len() == 0 {
-        fail(rt, b"''", error);
-        return;
-    }
-    fail(rt, name.as_bytes(), error);
-}
-
-// Reads until the buffer is full or the file ends, and returns how many bytes were read.
-fn read_full(file: &mut fs::File, buf: &mut [u8]) -> io::Result<usize>
-    ensures { IfOk result (λ n. n ≤ length buf.new) }
-{
-    let mut done = 0;
-    while done < buf.len() {
-        let n = file.read(&mut buf[done..])?;
-        if n == 0 {
-            break;
-        }
-        done += n;
-    }
-    Ok(done)
-}
-
-// What is left to read shows whether the file ended or goes on.
-fn read_to_end(file: &mut fs::File, buf: &mut [u8]) -> io::Result<File> {
-    let n = read_full(file, buf)?;
-    let mut next = [0u8; 1];
-    let more = file.read(&mut next)?;
-    if more > 0 {
-        return Ok(File::Longer);
-    }
-    Ok(File::Whole(n))
-}
-
-fn read_file(rt: &HostRuntime, name: &str, buf: &mut [u8]) -> io::Result<File> {
-    let mut file = fs::open(rt, name)?;
-    read_to_end(&mut file, buf)
-}
+const HELP: &str = "write_block RECORDS BLOCK\n\
+    Writes the boot block of a list of records, and prints its length and how many records it has.\n\
+    RECORDS: the text file, of at most 262,144 bytes, with a record on each line:\n\
+    \x20 process ENTRY FIRST COUNT KIND\n\
+    \x20 section ADDRESS SIZE OFFSET FLAGS\n\
+    \x20 region START PAGES\n\
+    KIND: 0 for the kernel; else 256 times the pages of the stack (0: sixteen), and 1 more where sections may be used in place\n\
+    BLOCK: the boot block file, which is made, or written over where there is one\n\
+    Commas, semicolons, blanks and tabs separate the fields. Numbers are decimal, or hexadecimal after 0x.\n\
+    # starts a comment. Lines of the three kinds may be mixed, and keep their order within a kind.\n\
+    With -h or --help alone it prints this.\n";
 
 // All that was written to the file is kept; else why not. What is no regular file has nothing to keep.
 fn closed(file: fs::File) -> io::Result<()> {
@@ -105,7 +46,7 @@ fn write_new(rt: &HostRuntime, mut file: fs::File, name: &str, block: &[u8]) -> 
 
 // Cuts the file to so many bytes. What is no regular file stays as long as it is.
 fn cut(file: &fs::File, length: usize) -> io::Result<()> {
-    match file.set_len(numbers::least(length, 1568) as u64) {
+    match file.set_len(length.min(BLOCK) as u64) {
         Err(error) if error.kind() == ErrorKind::InvalidInput => Ok(()),
         done => done,
     }
@@ -114,7 +55,8 @@ fn cut(file: &fs::File, length: usize) -> io::Result<()> {
 // Writes the block over a file of `old` bytes, whose position is its end. What is longer than the file is written first: where
 // there is no space for it, the file is cut to its old bytes.
 fn write_over(file: &mut fs::File, block: &[u8], old: usize) -> io::Result<()> {
-    if let Err(error) = file.write_all(slices::tail(block, old)) {
+    let (head, tail) = block.split_at(old.min(block.len()));
+    if let Err(error) = file.write_all(tail) {
         let _ = cut(file, old);
         return Err(error);
     }
@@ -122,7 +64,7 @@ fn write_over(file: &mut fs::File, block: &[u8], old: usize) -> io::Result<()> {
         return Ok(());
     }
     file.seek(SeekFrom::Start(0))?;
-    file.write_all(slices::part(block, 0, old))?;
+    file.write_all(head)?;
     if old <= block.len() {
         return Ok(());
     }
@@ -133,8 +75,7 @@ fn write_over(file: &mut fs::File, block: &[u8], old: usize) -> io::Result<()> {
 fn write_existing(mut file: fs::File, block: &[u8]) -> io::Result<()> {
     let end = file.seek(SeekFrom::End(0)).unwrap_or(0);
     // A block is shorter than that, so a longer file counts as one of 4,096 bytes.
-    let old = numbers::least(end as usize, 4096);
-    write_over(&mut file, block, old)?;
+    write_over(&mut file, block, end.min(4096) as usize)?;
     closed(file)
 }
 
@@ -153,156 +94,51 @@ fn write_file(rt: &HostRuntime, name: &str, block: &[u8]) -> io::Result<()> {
     }
 }
 
-// A block has at most 1,568 bytes, and a reply fewer than 256.
-fn write_records(rt: &HostRuntime, text: &[u8], name: &str) {
-    let mut block = [0u8; 1568];
+// Says what is wrong with the records, in the line that the library gives.
+fn say(program: Program<'_>, line: &[u8]) -> Complained {
+    let _ = program.rt.stderr().write_all(line);
+    Complained
+}
+
+// Writes the block of a text's records, and prints the reply, of fewer than 256 bytes.
+fn write_records(program: Program<'_>, text: &[u8], name: &str) -> Result<(), Complained> {
+    let mut block = [0u8; BLOCK];
     let mut reply = [0u8; 256];
     let written = write_report::write_from_text(text, &mut block, &mut reply);
-    let line = slices::part(&reply, 0, written.end);
-    if written.length == 0 {
-        complain(rt, line);
-        return;
-    }
-    match write_file(rt, name, slices::part(&block, 0, written.length as usize)) {
-        Ok(()) => print(rt, line),
-        Err(error) => fail_on(rt, name, error),
-    }
-}
-
-// A text has at most so many bytes.
-fn text_space() -> [u8; 262144]
-    ensures { 262144 ≡ length result }
-{
-    [0; 262144]
-}
-
-fn write_from_file(rt: &HostRuntime, records: &str, block: &str) {
-    let mut text = text_space();
-    match read_file(rt, records, &mut text) {
-        Ok(File::Whole(n)) => write_records(rt, slices::part(&text, 0, n), block),
-        Ok(File::Longer) => {
-            complain(rt, b"write_block: ");
-            complain(rt, records.as_bytes());
-            complain(rt, b": over 262,144 bytes\n");
-        }
-        Err(error) => fail_on(rt, records, error),
-    }
-}
-
-// The file name that argument i is, put at the start of a buffer; else it is said why it is none. The argument is there.
-fn name_argument<'a>(
-    rt: &HostRuntime,
-    i: usize,
-    buf: &'a mut [u8],
-    what: &[u8],
-) -> Option<&'a str> {
-    let Ok(n) = rt.arg(i, buf) else {
-        complain(rt, what);
-        complain(rt, b": File name too long\n");
-        return None;
+    let line = &reply[..written.end];
+    let Some(length) = written.length else {
+        return Err(say(program, line));
     };
-    let Ok(name) = str::from_utf8(&buf[..n]) else {
-        complain(rt, what);
-        complain(rt, b": File name not in UTF-8\n");
-        return None;
-    };
-    Some(name)
+    let end = (length as usize).min(BLOCK);
+    write_file(program.rt, name, &block[..end]).map_err(|error| program.fail_on(name, error))?;
+    program.print(line);
+    Ok(())
 }
 
-fn write_with_name(rt: &HostRuntime, records: &str) {
-    let mut text = [0u8; 4096];
-    if let Some(name) = name_argument(rt, 2, &mut text, b"write_block: BLOCK") {
-        write_from_file(rt, records, name);
+fn write_arguments(program: Program<'_>) -> Result<(), Complained> {
+    let mut records_text = [0u8; 4096];
+    let mut block_text = [0u8; 4096];
+    let mut text = buffers::zeros::<TEXT>();
+    let records = program.name_argument(1, &mut records_text, "RECORDS")?;
+    let block = program.name_argument(2, &mut block_text, "BLOCK")?;
+    match program_files::read_file(program.rt, records, &mut text) {
+        Ok(Some(n)) => write_records(program, &text[..n], block),
+        Ok(None) => Err(program.complain(records, "over 262,144 bytes")),
+        Err(error) => Err(program.fail_on(records, error)),
     }
-}
-
-fn write_arguments(rt: &HostRuntime) {
-    let mut text = [0u8; 4096];
-    if let Some(name) = name_argument(rt, 1, &mut text, b"write_block: RECORDS") {
-        write_with_name(rt, name);
-    }
-}
-
-fn print_help(rt: &HostRuntime) {
-    print(
-        rt,
-        b"write_block RECORDS BLOCK\n\
-          Writes the boot block of a list of records, and prints its length and how many records it has.\n\
-          RECORDS: the text file, of at most 262,144 bytes, with a record on each line:\n\
-          \x20 process ENTRY FIRST COUNT KIND\n\
-          \x20 section ADDRESS SIZE OFFSET FLAGS\n\
-          \x20 region START PAGES\n\
-          KIND: 0 for the kernel; else 256 times the pages of the stack (0: sixteen), and 1 more where sections may be used in place\n\
-          BLOCK: the boot block file, which is made, or written over where there is one\n\
-          Commas, semicolons, blanks and tabs separate the fields. Numbers are decimal, or hexadecimal after 0x.\n\
-          # starts a comment. Lines of the three kinds may be mixed, and keep their order within a kind.\n\
-          With -h or --help alone it prints this.\n",
-    );
-}
-
-fn same(a: &[u8], b: &[u8]) -> bool {
-    if a.len() != b.len() {
-        return false;
-    }
-    let mut i = 0;
-    while i < a.len() {
-        if a[i] != slices::byte(b, i) {
-            return false;
-        }
-        i += 1;
-    }
-    true
-}
-
-// How many arguments there are, the program's own name among them; 4 where there are more.
-fn argument_count(rt: &HostRuntime) -> usize {
-    for i in 0..4 {
-        if let Err(FillError::NotPresent) = rt.arg(i, &mut []) {
-            return i;
-        }
-    }
-    4
-}
-
-// Whether the first argument asks for help.
-fn help_asked(rt: &HostRuntime) -> bool {
-    let mut text = [0u8; 4096];
-    let Ok(n) = rt.arg(1, &mut text) else {
-        return false;
-    };
-    if same(&text[..n], b"-h") {
-        return true;
-    }
-    same(&text[..n], b"--help")
 }
 
 fn main(rt: HostRuntime) {
+    let program = Program {
+        name: "write_block",
+        rt: &rt,
+    };
     // The program's own name counts too.
-    let count = argument_count(&rt);
-    if count < 2 {
-        complain(
-            &rt,
-            b"write_block: RECORDS is missing: write_block RECORDS BLOCK\n",
-        );
-        return;
+    match program.argument_count(4) {
+        0 | 1 => _ = program.complain("RECORDS is missing", USAGE),
+        2 if program.help_asked() => program.print(HELP.as_bytes()),
+        2 => _ = program.complain("BLOCK is missing", USAGE),
+        3 => _ = write_arguments(program),
+        _ => _ = program.complain("too many arguments", USAGE),
     }
-    if count == 2 {
-        if help_asked(&rt) {
-            print_help(&rt);
-            return;
-        }
-        complain(
-            &rt,
-            b"write_block: BLOCK is missing: write_block RECORDS BLOCK\n",
-        );
-        return;
-    }
-    if count > 3 {
-        complain(
-            &rt,
-            b"write_block: too many arguments: write_block RECORDS BLOCK\n",
-        );
-        return;
-    }
-    write_arguments(&rt);
 }

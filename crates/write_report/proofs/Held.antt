@@ -1,18 +1,11 @@
 -- Lists of records that are not held whole: the writer answers alike.
-use mathlib.Core.Path.{◌≡◌, refl, sym, ap, ◌∙◌}
-use mathlib.Core.Bool.{Bool, true, false}
-use mathlib.Core.List.{List, [], ◌∷◌}
-use Prim.Native.Nat.{ℕ, zero, suc, ◌+◌, ◌-◌, ◌≤◌, ◌<◌}
-use native.Mathlib.Decide.{dec_lt}
-use native.Mathlib.Omega.{arith}
-use lib.Dec.{ltb}
-use lib.ListN.{length, get_or, take, length-take}
-use lib.Seq.{ext_get_or, get_or-take, take_all, length-take-le}
-use borrow.Author.Tests.{lt-ltb, le-leb}
+use Rattle.std.proofs.Common.{◌≡◌, refl, sym, ap, ◌∙◌, Bool, true, false, List, [], ◌∷◌, ℕ, zero, suc, ◌+◌, ◌-◌, ◌≤◌, ◌<◌, ltb, length, get_or, take, length-take, get_or-take, length-take-le, ext_get_or, arith, lt-ltb, le-leb}
+use Rattle.std.proofs.Math.Decide.{dec_lt}
+use Rattle.std.proofs.lemmas.List.{take_all}
 use Rattle.notation.specs.Choice.{choose, any}
 use Rattle.laws.specs.Choice.{choose_yes}
 use Rattle.laws.specs.Lists.{tab_get}
-use Rattle.types.specs.declared.Written.{Written}
+use Rattle.rules.specs.Answers.{Written}
 use Rattle.rules.specs.Refusals.{outside, counts_outside, refused}
 use Rattle.rules.specs.Writer.{Records, records_in, processes_in, sections_in, regions_in, lists_unfit, written, buffer_after}
 use Rattle.block_writer.proofs.Answering.{verdict_21}

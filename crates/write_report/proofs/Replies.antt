@@ -1,31 +1,29 @@
 -- The reply, and what the writer leaves, by what the text's lines say.
-use mathlib.Core.Path.{◌≡◌, refl, sym, ap, ◌∙◌}
-use mathlib.Core.Bool.{true, false}
-use mathlib.Core.List.{List, []}
-use Prim.Native.Nat.{ℕ, ◌+◌, ◌/◌, ◌≤◌}
-use native.Mathlib.Decide.{dec_lt}
-use native.Mathlib.Omega.{arith}
-use lib.Dec.{eqb}
-use lib.ListN.{length, get_or, take, drop, length-drop, get_or-eq_default}
-use borrow.Author.Tests.{eqb-true}
+use Rattle.std.proofs.Common.{◌≡◌, refl, sym, ap, ◌∙◌, true, false, List, [], Option, Some, None, Ok, ℕ, ◌+◌, ◌/◌, ◌≤◌, eqb, length, get_or, take, drop, length-drop, arith, eqb-true, ne_eqb}
+use Rattle.std.proofs.Math.Decide.{dec_lt}
+use Rattle.std.proofs.Math.ListN.{get_or-eq_default}
 use Rattle.notation.specs.Choice.{choose}
 use Rattle.notation.specs.Lists.{count_before}
 use Rattle.laws.specs.Choice.{choose_yes, choose_no, choose_same, false_not_true}
-use Rattle.types.specs.declared.Written.{Written}
+use Rattle.rules.specs.Answers.{Written}
 use Rattle.rules.specs.Writer.{records_in, processes_in, sections_in, regions_in, written, buffer_after}
 use Rattle.text.specs.Text.{Appended}
 use Rattle.record_fields.specs.Fields.{before, pieces, non_empty, fields}
 use Rattle.record_fields.proofs.Pieces.{pieces_length}
-use Rattle.record_lines.specs.declared.Line.TheVariants.{Empty}
 use Rattle.record_lines.specs.Lines.{said_by, line_of, faulty}
-use Rattle.record_texts.specs.Texts.{line_feed, mark_length, lines, sound_lines, process_words, section_words, region_words, words_of}
+use Rattle.record_texts.specs.Texts.{Line, line_feed, mark_length, lines, sound_lines, process_words, section_words, region_words, words_of}
 use Rattle.refusal_line.specs.Line.{refused_line}
 use Rattle.write_report.specs.Lines.{fault_line, block_line}
+use Rattle.std.specs.Prelude.{Result, Ok, Err}
+use Rattle.std.specs.Result.{result_ok}
+use Rattle.refusals.specs.declared.Refused.{Refused}
+use Rattle.refusals.specs.Answers.{written_of}
+use Rattle.refusals.proofs.Given.{number_given}
 use Rattle.write_report.specs.Replies.{faulty_line, at_fault, records_from, written_line, reply_to, length_from, buffer_from}
 use Rattle.write_report.proofs.Held.{held_take, cut_alike, success_short}
 
 -- A FAULT lies in the text
-line_nil : line_of [] ≡ Empty
+line_nil : ◌≡◌ {A = Line} (line_of []) (Ok None)
 unfolding line_of said_by fields before pieces non_empty count_before choose
 line_nil = refl
 
@@ -39,8 +37,12 @@ fault_inside t n l e f = elim (dec_lt n (length (lines t))) [
       false_not_true g f
 ]
 
+-- the length of what was written
+abbrev pub length_of : Written → Option ℕ
+length_of w = choose (eqb w.number 0) (Some w.length) None
+
 -- what a call leaves
-abbrev pub Leaves : List ℕ → List ℕ → List ℕ → List ℕ → List ℕ → ℕ → ℕ → Type 0
+abbrev pub Leaves : List ℕ → List ℕ → List ℕ → List ℕ → List ℕ → Option ℕ → ℕ → Type 0
 Leaves t d d' xs ys n end = (n ≡ length_from t (length d)) × (d' ≡ buffer_from t d) × Appended xs 0 (reply_to t (length d)) ys end
 
 module _ (t : List ℕ) (n : ℕ) (e : n ≡ length (sound_lines t)) (l : List ℕ) (f : l ≡ get_or (lines t) n []) where
@@ -48,7 +50,7 @@ module _ (t : List ℕ) (n : ℕ) (e : n ≡ length (sound_lines t)) (l : List �
   unfolding faulty_line
   line_is = f ∙ rw e
 
-  pub leaves_fault : faulty (line_of l) ≡ true → (d : List ℕ) {xs ys : List ℕ} {end : ℕ} → Appended xs 0 (fault_line (n + 1) l) ys end → Leaves t d d xs ys 0 end
+  pub leaves_fault : faulty (line_of l) ≡ true → (d : List ℕ) {xs ys : List ℕ} {end : ℕ} → Appended xs 0 (fault_line (n + 1) l) ys end → Leaves t d d xs ys None end
   unfolding at_fault reply_to length_from buffer_from
   leaves_fault h d p =
       let a : at_fault t ≡ true = rw (← line_is) h in
@@ -56,11 +58,11 @@ module _ (t : List ℕ) (n : ℕ) (e : n ≡ length (sound_lines t)) (l : List �
 
   pub leaves_written : faulty (line_of l) ≡ false → (d d' : List ℕ) {xs ys : List ℕ} {end : ℕ} (w : Written)
       → w ≡ written (records_from t) (length d) → d' ≡ buffer_after (records_from t) d → Appended xs 0 (written_line (records_from t) w) ys end
-      → Leaves t d d' xs ys w.length end
+      → Leaves t d d' xs ys (length_of w) end
   unfolding at_fault reply_to length_from buffer_from
   leaves_written h d d' w g b p =
       let a : at_fault t ≡ false = rw (← line_is) h in
-      (ap (λ (v : Written). v.length) g ∙ sym (choose_no _ _ a), b ∙ sym (choose_no _ _ a), rw (choose_no _ _ a, ← g) p)
+      (ap length_of g ∙ sym (choose_no _ _ a), b ∙ sym (choose_no _ _ a), rw (choose_no _ _ a, ← g) p)
 
   -- the same from the words that are held of each list
   module _ (h : faulty (line_of l) ≡ false) {ps ps' ss ss' rs rs' : List ℕ} {p s r : ℕ}
@@ -98,5 +100,11 @@ module _ (t : List ℕ) (n : ℕ) (e : n ≡ length (sound_lines t)) (l : List �
 
     pub leaves_held : {xs ys : List ℕ} {end : ℕ}
         → Appended xs 0 (choose (eqb w.number 0) (block_line w.length (p / 4) (s / 4) (r / 2)) (refused_line w.number w.place w.offset)) ys end
-        → Leaves t d d' xs ys w.length end
+        → Leaves t d d' xs ys (length_of w) end
     leaves_held q = leaves_written h d d' w answer_is buffer_is (rw line_of_lem at q)
+
+-- THE LENGTH of an answer
+pub length_is : (w : Result ℕ Refused) → length_of (written_of w) ≡ result_ok w
+unfolding written_of choose
+length_is (Ok n) = refl
+length_is (Err e) = rw (choose_no _ _ (ne_eqb _ 0 (number_given e.refusal))) refl

@@ -1,11 +1,12 @@
 -- The lines of a reply.
-use Rattle.std.specs.Prelude.{◌&&◌, List, [], ◌∷◌, ◌++◌, ℕ, min, eqb, leb, ltb, length, get_or}
+use Rattle.std.specs.Prelude.{◌&&◌, List, [], ◌∷◌, ◌++◌, ℕ, min, eqb, leb, ltb, length, get_or, Option, Result, Ok, Err}
 use Rattle.notation.specs.Choice.{choose}
 use Rattle.notation.specs.Lists.{tab}
 use Rattle.text.specs.Text.{numeral}
 use Rattle.record_fields.specs.Fields.{fields}
-use Rattle.record_lines.specs.declared.Line.{Line}
-use Rattle.record_lines.specs.declared.Line.TheVariants.{Empty, Process, Section, Region, UnknownWord, WrongCount, NotNumber, TooLarge}
+use Rattle.record_lines.specs.declared.Record.{Record}
+use Rattle.record_lines.specs.declared.Fault.{Fault}
+use Rattle.record_lines.specs.declared.Fault.TheVariants.{UnknownWord, WrongCount, NotNumber, TooLarge}
 use Rattle.record_lines.specs.Lines.{line_of}
 
 -- A FIELD AS IT IS SHOWN
@@ -22,29 +23,26 @@ shown t = tab (min 40 (length t)) (λ i. shown_byte (get_or t i 0)) ++ choose (l
 unfoldable pub verb : ℕ → List ℕ
 verb n = choose (eqb n 1) (105 ∷ 115 ∷ []) (97 ∷ 114 ∷ 101 ∷ [])
 
--- what is wrong with a line of these fields. The four that are not at fault have no text
-abbrev pub cause_text : Line → List (List ℕ) → List ℕ
+-- what is wrong with a line of these fields. One that is not at fault has no text
+abbrev pub cause_text : Result (Option Record) Fault → List (List ℕ) → List ℕ
 -- `not process, section or region: WORD`
-cause_text UnknownWord f =
+cause_text (Err UnknownWord) f =
     (110 ∷ 111 ∷ 116 ∷ 32 ∷ 112 ∷ 114 ∷ 111 ∷ 99 ∷ 101 ∷ 115 ∷ 115 ∷ 44 ∷ 32 ∷ 115 ∷ 101 ∷ 99 ∷ 116 ∷ 105 ∷ 111 ∷ 110 ∷ 32 ∷ 111 ∷ 114 ∷ 32 ∷ 114 ∷ 101 ∷ 103 ∷ 105 ∷ 111 ∷ 110 ∷ 58 ∷ 32 ∷ [])
     ++ shown (get_or f 0 [])
 -- `process has 4 numbers, here are 3`
-cause_text (WrongCount n m) f =
+cause_text (Err (WrongCount n m)) f =
     shown (get_or f 0 []) ++ ((32 ∷ 104 ∷ 97 ∷ 115 ∷ 32 ∷ []) ++ (numeral 10 n
     ++ ((32 ∷ 110 ∷ 117 ∷ 109 ∷ 98 ∷ 101 ∷ 114 ∷ 115 ∷ 44 ∷ 32 ∷ 104 ∷ 101 ∷ 114 ∷ 101 ∷ 32 ∷ [])
     ++ (verb m ++ ((32 ∷ []) ++ numeral 10 m)))))
 -- `not a number: FIELD`
-cause_text (NotNumber k) f =
+cause_text (Err (NotNumber k)) f =
     (110 ∷ 111 ∷ 116 ∷ 32 ∷ 97 ∷ 32 ∷ 110 ∷ 117 ∷ 109 ∷ 98 ∷ 101 ∷ 114 ∷ 58 ∷ 32 ∷ [])
     ++ shown (get_or f k [])
 -- `over 32 bits: FIELD`
-cause_text (TooLarge k) f =
+cause_text (Err (TooLarge k)) f =
     (111 ∷ 118 ∷ 101 ∷ 114 ∷ 32 ∷ 51 ∷ 50 ∷ 32 ∷ 98 ∷ 105 ∷ 116 ∷ 115 ∷ 58 ∷ 32 ∷ [])
     ++ shown (get_or f k [])
-cause_text Empty f = []
-cause_text (Process a b c d) f = []
-cause_text (Section a b c d) f = []
-cause_text (Region a b) f = []
+cause_text (Ok r) f = []
 
 -- `line N: CAUSE`
 unfoldable pub fault_line : ℕ → List ℕ → List ℕ

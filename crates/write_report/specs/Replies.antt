@@ -1,7 +1,7 @@
 -- The block that is written from a text of records, and the reply.
-use Rattle.std.specs.Prelude.{Bool, List, [], ℕ, ◌+◌, eqb, length, get_or}
+use Rattle.std.specs.Prelude.{Bool, List, [], ℕ, ◌+◌, eqb, length, get_or, Option, Some, None}
 use Rattle.notation.specs.Choice.{choose}
-use Rattle.types.specs.declared.Written.{Written}
+use Rattle.rules.specs.Answers.{Written}
 use Rattle.rules.specs.Writer.{Records, records_in, processes_in, sections_in, regions_in, written, buffer_after}
 use Rattle.record_lines.specs.Lines.{line_of, faulty}
 use Rattle.record_texts.specs.Texts.{lines, sound_lines, process_words, section_words, region_words, words_of}
@@ -36,9 +36,11 @@ reply_to t room =
     (fault_line (length (sound_lines t) + 1) (faulty_line t))
     (written_line (records_from t) (written (records_from t) room))
 
--- the block's length, 0 where none is written
-unfoldable pub length_from : List ℕ → ℕ → ℕ
-length_from t room = choose (at_fault t) 0 (written (records_from t) room).length
+-- the block's length, none where none is written
+unfoldable pub length_from : List ℕ → ℕ → Option ℕ
+length_from t room =
+    let w = written (records_from t) room in
+    choose (at_fault t) None (choose (eqb w.number 0) (Some w.length) None)
 
 -- the block's buffer after the call: as it came where a line is at fault
 unfoldable pub buffer_from : List ℕ → List ℕ → List ℕ

@@ -1,167 +1,177 @@
 // The block that is written from a text of records, and the reply: what is wrong with a line, the refusal, or what was written.
 #![tactic(auto)]
 
-ghost use Rattle.std.specs.Prelude.{◌≡◌, [], ◌++◌, ◌+◌, ◌/◌, ◌≤◌, min, eqb, length, get_or};
+ghost use Rattle.std.specs.Prelude.{◌≡◌, ◌++◌, [], ◌/◌, ◌≤◌, min, eqb, length, get_or, Err};
 ghost use Rattle.notation.specs.Choice.{choose};
 ghost use Rattle.notation.specs.Lists.{tab};
 ghost use Rattle.text.specs.Text.{Appended};
+ghost use Rattle.refusals.specs.Answers.{written_of};
+ghost use Rattle.text.specs.Puts.{Puts};
 ghost use Rattle.record_fields.specs.Fields.{fields};
+ghost use Rattle.record_lines.specs.Lines.{line_of};
 ghost use Rattle.refusal_line.specs.Line.{refused_line};
 ghost use Rattle.write_report.specs.Lines.{shown_byte, shown, verb, cause_text, fault_line, counted, counts_text, block_line};
 ghost use Rattle.write_report.specs.Replies.{reply_to, length_from, buffer_from};
 
-use record_lines::Line;
-use types::Written;
+use record_lines::Fault;
+use refusals::Refused;
+use text::Out;
 
-// The length of the block that was written, 0 where none was; and where the reply ends.
-#[derive(Clone, Copy)]
+// The length of the block, where one was written; and where the reply ends.
+#[derive(Clone, Copy, PartialEq, Eq, Debug)]
 pub struct Reply {
-    pub length: u32,
+    pub length: Option<u32>,
     pub end: usize,
 }
 
 // A byte of a field as it is shown.
+#[tactic(auto, unfolding(crate::specs::Lines::shown_byte, notation::specs::Choice::choices))]
 fn shown_byte(c: u8) -> u8
     ensures { result ≡ shown_byte c }
 {
-    if c < 33 {
-        return b'?';
-    }
-    if 126 < c {
-        return b'?';
-    }
-    c
+    if c.is_ascii_graphic() { c } else { b'?' }
 }
 
 // At most the first 40 bytes of a field.
-fn put_shown_bytes(to: &mut [u8], at: usize, field: &[u8]) -> usize
-    ensures { Appended to.old at (tab (min 40 (length field.now)) (λ i. shown_byte (get_or field.now i 0))) to.new result }
+fn put_shown_bytes(out: &mut Out<'_>, field: &[u8])
+    ensures { Puts out.old (tab (min 40 (length field.now)) (λ i. shown_byte (get_or field.now i 0))) out.new }
 {
-    let n = numbers::least(40, field.len());
-    let mut end = numbers::least(at, to.len());
-    let mut i = 0;
-    while i < n {
-        let one = [shown_byte(slices::byte(field, i))];
-        end = text::put(to, end, &one);
-        i += 1;
+    for c in &field[..field.len().min(40)] {
+        out.put(&[shown_byte(*c)]);
     }
-    end
 }
 
 // A field as it is shown.
-fn put_shown(to: &mut [u8], at: usize, field: &[u8]) -> usize
-    ensures { Appended to.old at (shown field.now) to.new result }
+fn put_shown(out: &mut Out<'_>, field: &[u8])
+    ensures { Puts out.old (shown field.now) out.new }
 {
-    let end = put_shown_bytes(to, at, field);
-    if 40 < field.len() {
-        return text::put(to, end, b"..");
+    put_shown_bytes(out, field);
+    if field.len() > 40 {
+        out.put(b"..");
     }
-    text::put(to, end, b"")
 }
 
 // A text, and then field k of a line.
-fn put_field(to: &mut [u8], at: usize, before: &[u8], line: &[u8], k: usize) -> usize
-    ensures { Appended to.old at (before.now ++ shown (get_or (fields line.now) k [])) to.new result }
+fn put_field(out: &mut Out<'_>, before: &[u8], line: &[u8], k: usize)
+    ensures { Puts out.old (before.now ++ shown (get_or (fields line.now) k [])) out.new }
 {
-    let end = text::put(to, at, before);
-    put_shown(to, end, record_fields::field(line, k))
+    out.put(before);
+    put_shown(out, record_fields::field(line, k));
 }
 
-fn put_verb(to: &mut [u8], at: usize, n: usize) -> usize
-    ensures { Appended to.old at (verb n) to.new result }
+fn put_verb(out: &mut Out<'_>, n: usize)
+    ensures { Puts out.old (verb n) out.new }
 {
     if n == 1 {
-        return text::put(to, at, b"is");
+        out.put(b"is");
+    } else {
+        out.put(b"are");
     }
-    text::put(to, at, b"are")
 }
 
 // What is wrong with a line whose word has n numbers, and which has m.
-fn put_count(to: &mut [u8], at: usize, line: &[u8], n: usize, m: usize) -> usize
-    ensures { Appended to.old at (cause_text (Line.WrongCount n m) (fields line.now)) to.new result }
+fn put_count(out: &mut Out<'_>, line: &[u8], n: usize, m: usize)
+    ensures { Puts out.old (cause_text (Err (Fault.WrongCount n m)) (fields line.now)) out.new }
 {
-    let word = put_shown(to, at, record_fields::field(line, 0));
-    let has = text::put(to, word, b" has ");
-    let should = text::put_decimal(to, has, n as u64);
-    let here = text::put(to, should, b" numbers, here ");
-    let is = put_verb(to, here, m);
-    let blank = text::put(to, is, b" ");
-    text::put_decimal(to, blank, m as u64)
+    put_shown(out, record_fields::field(line, 0));
+    out.put(b" has ");
+    out.put_decimal(n as u64);
+    out.put(b" numbers, here ");
+    put_verb(out, m);
+    out.put(b" ");
+    out.put_decimal(m as u64);
 }
 
-// What is wrong with a line, which says `said`.
-fn put_cause(to: &mut [u8], at: usize, said: Line, line: &[u8]) -> usize
-    ensures { Appended to.old at (cause_text said (fields line.now)) to.new result }
+// What is wrong with a line.
+fn put_cause(out: &mut Out<'_>, fault: Fault, line: &[u8])
+    ensures { Puts out.old (cause_text (Err fault) (fields line.now)) out.new }
 {
-    match said {
-        Line::UnknownWord => put_field(to, at, b"not process, section or region: ", line, 0),
-        Line::WrongCount(n, m) => put_count(to, at, line, n, m),
-        Line::NotNumber(k) => put_field(to, at, b"not a number: ", line, k),
-        Line::TooLarge(k) => put_field(to, at, b"over 32 bits: ", line, k),
-        Line::Empty => text::put(to, at, b""),
-        Line::Process(_, _, _, _) => text::put(to, at, b""),
-        Line::Section(_, _, _, _) => text::put(to, at, b""),
-        Line::Region(_, _) => text::put(to, at, b""),
+    match fault {
+        Fault::UnknownWord => put_field(out, b"not process, section or region: ", line, 0),
+        Fault::WrongCount(n, m) => put_count(out, line, n, m),
+        Fault::NotNumber(k) => put_field(out, b"not a number: ", line, k),
+        Fault::TooLarge(k) => put_field(out, b"over 32 bits: ", line, k),
     }
 }
 
-fn put_fault(to: &mut [u8], number: usize, line: &[u8]) -> usize
-    ensures { Appended to.old 0 (fault_line number line.now) to.new result }
+fn put_fault(out: &mut Out<'_>, number: usize, fault: Fault, line: &[u8])
+    requires { Err fault ≡ line_of line.now }
+    ensures { Puts out.old (fault_line number line.now) out.new }
 {
-    let start = text::put(to, 0, b"line ");
-    let after = text::put_decimal(to, start, number as u64);
-    let colon = text::put(to, after, b": ");
-    let cause = put_cause(to, colon, record_lines::read_line(line), line);
-    text::put(to, cause, b"\n")
-}
-
-fn put_ending(to: &mut [u8], at: usize, n: usize, ending: &[u8]) -> usize
-    ensures { Appended to.old at (choose (eqb n 1) [] ending.now) to.new result }
-{
-    if n == 1 {
-        return text::put(to, at, b"");
-    }
-    text::put(to, at, ending)
+    out.put(b"line ");
+    out.put_decimal(number as u64);
+    out.put(b": ");
+    put_cause(out, fault, line);
+    out.put(b"\n");
 }
 
 // A number of things.
-fn put_counted(to: &mut [u8], at: usize, n: usize, word: &[u8], ending: &[u8]) -> usize
-    ensures { Appended to.old at (counted n word.now ending.now) to.new result }
+fn put_counted(out: &mut Out<'_>, n: usize, word: &[u8], ending: &[u8])
+    ensures { Puts out.old (counted n word.now ending.now) out.new }
 {
-    let number = text::put_decimal(to, at, n as u64);
-    let thing = text::put(to, number, word);
-    put_ending(to, thing, n, ending)
+    out.put_decimal(n as u64);
+    out.put(word);
+    if n != 1 {
+        out.put(ending);
+    }
 }
 
 // How many records of each kind there are.
-fn put_counts(to: &mut [u8], at: usize, p: usize, s: usize, r: usize) -> usize
-    ensures { Appended to.old at (counts_text p s r) to.new result }
+fn put_counts(out: &mut Out<'_>, p: usize, s: usize, r: usize)
+    ensures { Puts out.old (counts_text p s r) out.new }
 {
-    let processes = put_counted(to, at, p, b" process", b"es");
-    let second = text::put(to, processes, b", ");
-    let sections = put_counted(to, second, s, b" section", b"s");
-    let third = text::put(to, sections, b", ");
-    put_counted(to, third, r, b" region", b"s")
+    put_counted(out, p, b" process", b"es");
+    out.put(b", ");
+    put_counted(out, s, b" section", b"s");
+    out.put(b", ");
+    put_counted(out, r, b" region", b"s");
 }
 
-fn put_block(to: &mut [u8], length: u32, p: usize, s: usize, r: usize) -> usize
-    ensures { Appended to.old 0 (block_line length p s r) to.new result }
+fn put_block(out: &mut Out<'_>, length: u32, p: usize, s: usize, r: usize)
+    ensures { Puts out.old (block_line length p s r) out.new }
 {
-    let start = text::put(to, 0, b"block ");
-    let number = text::put_decimal(to, start, length as u64);
-    let bytes = text::put(to, number, b" bytes: ");
-    let counts = put_counts(to, bytes, p, s, r);
-    text::put(to, counts, b"\n")
+    out.put(b"block ");
+    out.put_decimal(u64::from(length));
+    out.put(b" bytes: ");
+    put_counts(out, p, s, r);
+    out.put(b"\n");
 }
 
 // What was written, from so many words of records of each kind, or the refusal.
-fn put_written(to: &mut [u8], written: Written, p: usize, s: usize, r: usize) -> usize
-    ensures { Appended to.old 0 (choose (eqb written.number 0) (block_line written.length (p / 4) (s / 4) (r / 2)) (refused_line written.number written.place written.offset)) to.new result }
+fn put_written(out: &mut Out<'_>, written: Result<u32, Refused>, p: usize, s: usize, r: usize)
+    ensures { let w = written_of written in
+        Puts out.old (choose (eqb w.number 0) (block_line w.length (p / 4) (s / 4) (r / 2)) (refused_line w.number w.place w.offset)) out.new }
 {
-    if written.number != 0 {
-        return refusal_line::put_refused(to, 0, written.number, written.place, written.offset);
+    match written {
+        Ok(length) => put_block(out, length, p / 4, s / 4, r / 2),
+        Err(e) => refusal_line::put_line(out, e.refusal.number(), e.place, e.offset),
     }
-    put_block(to, written.length, p / 4, s / 4, r / 2)
+}
+
+// The reply where a line is at fault, at the start of a buffer. Answers its end there.
+fn reply_fault(to: &mut [u8], number: usize, fault: Fault, line: &[u8]) -> usize
+    requires { Err fault ≡ line_of line.now }
+    ensures { Appended to.old 0 (fault_line number line.now) to.new result }
+{
+    let mut out = Out::new(to);
+    put_fault(&mut out, number, fault, line);
+    out.end
+}
+
+// The reply to what was written, likewise.
+fn reply_written(
+    to: &mut [u8],
+    written: Result<u32, Refused>,
+    p: usize,
+    s: usize,
+    r: usize,
+) -> usize
+    ensures { let w = written_of written in
+        Appended to.old 0 (choose (eqb w.number 0) (block_line w.length (p / 4) (s / 4) (r / 2)) (refused_line w.number w.place w.offset)) to.new result }
+{
+    let mut out = Out::new(to);
+    put_written(&mut out, written, p, s, r);
+    out.end
 }
 
 // The same as write_from_text, with slices to hold the words of the records: one record more of each kind than a block may have.
@@ -181,17 +191,17 @@ fn write_held(
     let read = record_texts::read_records(text, processes, sections, regions);
     let n = read.lines;
     let line = record_texts::line_at(text, n);
-    if record_lines::is_faulty(record_lines::read_line(line)) {
-        let end = put_fault(reply, n + 1, line);
-        return Reply { length: 0, end };
+    if let Err(fault) = record_lines::read_line(line) {
+        let end = reply_fault(reply, n + 1, fault, line);
+        return Reply { length: None, end };
     }
     let p = read.processes;
     let s = read.sections;
     let r = read.regions;
     let written = block_writer::write_block(&processes[..p], &sections[..s], &regions[..r], block);
-    let end = put_written(reply, written, p, s, r);
+    let end = reply_written(reply, written, p, s, r);
     Reply {
-        length: written.length,
+        length: written.ok(),
         end,
     }
 }

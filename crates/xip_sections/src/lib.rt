@@ -27,13 +27,10 @@ pub fn pages_taken(xip: &[u8], n: usize, pages: u32) -> u32
 fn zero_between(s: &[u8], from: usize, to: usize) -> bool
     ensures { result ≡ zero_between s.now from to }
 {
-    let n = numbers::minus(to, from);
-    let mut k: usize = 0;
-    while k < n {
-        if slices::byte(s, from + k) != 0 {
+    for i in from..to {
+        if slices::byte(s, i) != 0 {
             return false;
         }
-        k += 1;
     }
     true
 }
@@ -43,18 +40,12 @@ fn lies_in_pages(section: Section, flash: &[u8]) -> bool
     ensures { result ≡ lies_in_pages section flash.now }
 {
     let start = section.flash_offset as usize;
-    if start % 4096 != section.address as usize % 4096 {
-        return false;
-    }
     let end = start + section.size as usize;
-    let to = 4096 * (numbers::minus(end, 1) / 4096 + 1);
-    if flash.len() < to {
-        return false;
-    }
-    if !zero_between(flash, 4096 * (start / 4096), start) {
-        return false;
-    }
-    zero_between(flash, end, to)
+    let to = 4096 * (end.saturating_sub(1) / 4096 + 1);
+    start % 4096 == section.address as usize % 4096
+        && to <= flash.len()
+        && zero_between(flash, 4096 * (start / 4096), start)
+        && zero_between(flash, end, to)
 }
 
 // Section record n is used in place.
@@ -65,30 +56,19 @@ pub fn in_place(block: &[u8], flash: &[u8], n: usize) -> bool
         return false;
     }
     let owner = section_owners::owner_of(block, n);
-    if owner <= 1 {
-        return false;
-    }
     let process = block_records::read_process(block, owner);
-    if block_records::kind_of(process.kind_word) != 1 {
+    if owner <= 1 || block_records::kind_of(process.kind_word) != 1 {
         return false;
     }
     let section = block_records::read_section(block, n);
-    if section.no_copy {
-        return false;
-    }
-    if section.writable {
-        return false;
-    }
-    lies_in_pages(section, flash)
+    !section.no_copy && !section.writable && lies_in_pages(section, flash)
 }
 
 // Marks for as many section records as there is room for.
 pub fn mark_sections(block: &[u8], flash: &[u8], xip: &mut [u8])
     ensures { xip.new ≡ marks_of block.now flash.now (length xip.old) }
 {
-    let mut n: usize = 0;
-    while n < xip.len() {
-        xip[n] = numbers::flag(in_place(block, flash, n), 1) as u8;
-        n += 1;
+    for n in 0..xip.len() {
+        xip[n] = u8::from(in_place(block, flash, n));
     }
 }

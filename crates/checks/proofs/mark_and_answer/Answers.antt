@@ -1,36 +1,39 @@
-use mathlib.Core.Path.{◌∙◌}
-use native.Mathlib.Omega.{arith}
-use Rattle.rules.specs.Lent.{image_of}
+use Rattle.std.proofs.Common.{refl, arith}
+use Rattle.std.proofs.lemmas.Result.{err_from_is_err_and}
+use Rattle.rules.specs.Refusals.{refused, accepted}
+use Rattle.lent.specs.Lent.{image}
+use Rattle.refusals.specs.Answers.{verdict_of, answer_of}
+use Rattle.refusals.proofs.Given.{number_given}
 use Rattle.checks.proofs.Verdicts.{before_12_pass, few_pages, counted}
 use Rattle.checks.proofs.Answers.{marked_refused, marked_room}
 use Rattle.checks.proofs.mark_and_answer.Goals as goal
 
-pub returns-then-first-ne0 : goal.returns-then-first-ne0
-returns-then-first-ne0 c =
-    let first = c in
-    let args = first.args in
-    let law = marked_refused (image_of args.block.now args.flash_start args.flash.now) _ first.refusal_before_12-first.result first.refusal_before_12-first.ensures
-    c.if-first-ne0.true args.xip.now in
-    (c.refusal.ensures ∙ law.0, law.1)
+pub returns-in_err-check_before_12-clause-answer : goal.returns-in_err-check_before_12-clause-answer
+unfolding verdict_of answer_of refused
+returns-in_err-check_before_12-clause-answer c =
+    let p = err_from_is_err_and c.from_residual.result c.from_residual.ensures.1 in
+    rw (p.1, p.2) (marked_refused (image c.args.image) c.args.ram _ c.in_err-check_before_12.ensures (number_given _) c.args.xip.now).0
+
+pub returns-in_err-check_before_12-clause-marks : goal.returns-in_err-check_before_12-clause-marks
+unfolding verdict_of refused
+returns-in_err-check_before_12-clause-marks c = (marked_refused (image c.args.image) c.args.ram _ c.in_err-check_before_12.ensures (number_given _) c.args.xip.now).1
 
 pub overflow_cast-ram : goal.overflow_cast-ram
-overflow_cast-ram c =
-    let test = c in
-    let first = test.refusal_before_12-first in
-    omega (arith, few_pages _ _ (before_12_pass _ _ _ first.result first.ensures test.if-first-ne0.false).0)
+unfolding verdict_of accepted refused
+overflow_cast-ram c = omega (arith, few_pages _ _ (before_12_pass _ _ _ _ c.in_ok-check_before_12.ensures refl).0)
 
 pub room_answer-requires : goal.room_answer-requires
+unfolding verdict_of accepted refused
 room_answer-requires c =
-    let test = c in
-    let first = test.refusal_before_12-first in
-    let pass = before_12_pass _ _ _ first.result first.ensures test.if-first-ne0.false in
+    let pass = before_12_pass _ _ _ _ c.in_ok-check_before_12.ensures refl in
     (few_pages _ _ pass.0, (counted _ pass.1).few_processes)
 
-pub returns : goal.returns
-returns c =
-    let marks = c in
-    let test = marks in
-    let first = test in
-    let args = first.args in
-    marked_room (image_of args.block.now args.flash_start args.flash.now) _ first.refusal_before_12-first.result first.refusal_before_12-first.ensures
-    test.if-first-ne0.false args.xip.now _ _ marks.mark_sections.ensures c.room_answer.ensures
+pub returns-clause-answer : goal.returns-clause-answer
+unfolding verdict_of accepted refused
+returns-clause-answer c =
+    (marked_room (image c.args.image) c.args.ram _ c.in_ok-check_before_12.ensures refl c.args.xip.now _ _ c.mark_sections.ensures c.room_answer.ensures).0
+
+pub returns-clause-marks : goal.returns-clause-marks
+unfolding verdict_of accepted refused
+returns-clause-marks c =
+    (marked_room (image c.args.image) c.args.ram _ c.in_ok-check_before_12.ensures refl c.args.xip.now _ _ c.mark_sections.ensures c.room_answer.ensures).1

@@ -1,5 +1,5 @@
 use Rattle.load_sections.proofs.Turns.{pages_none, pages_next, pages_all}
-use native.Mathlib.Omega.{arith}
+use Rattle.std.proofs.Common.{arith}
 use Rattle.load_sections.proofs.clear_pages.Goals as goal
 
 pub loop-next-init : goal.loop-next-init
@@ -14,8 +14,7 @@ loop-next-smaller c = omega arith
 pub loop-next-preserved : goal.loop-next-preserved
 loop-next-preserved c =
     let got = c.allocate-got.ensures in
-    let inv = c.loop-next.invariant in
-    (omega arith, omega arith, pages_all _ _ (pages_next inv.2 got.1 got.0 c.clear_page.ensures) (omega arith))
+    (omega arith, omega arith, pages_all _ _ (pages_next c.loop-next.invariant.2 got.1 got.0 c.clear_page.ensures) (omega arith))
 
 pub shape_of-ram : goal.shape_of-ram
 shape_of-ram c = c.loop-next.invariant.2.long

@@ -1,17 +1,13 @@
-use mathlib.Core.Path.{refl}
-use Rattle.load_sections.proofs.Turns.{pages_none, pages_next, pages_all}
-use native.Mathlib.Omega.{arith}
-use borrow.Author.Rules.{rules}
+use Rattle.std.proofs.Common.{◌≡◌, refl, arith}
+use Rattle.load_sections.proofs.Turns.{pages_none, pages_next}
 use Rattle.load_sections.proofs.load_pages.Goals as goal
 
 pub loop-i-init : goal.loop-i-init
-loop-i-init c = (search rules, pages_none _ _ _ refl)
+loop-i-init c = pages_none _ _ _ refl
 
 pub loop-i-preserved : goal.loop-i-preserved
 loop-i-preserved c =
-    let at-page = c in
-    let loop = at-page in
-    (omega arith, pages_next loop.loop-i.invariant.1 at-page.allocate-got.ensures.1 at-page.allocate-got.ensures.0 at-page.load_page.ensures)
+    pages_next c.loop-i.invariant c.allocate-got.ensures.1 c.allocate-got.ensures.0 c.load_page.ensures
 
 pub returns : goal.returns
-returns c = pages_all _ _ c.loop-i.invariant.1 (omega arith)
+returns c = let e : c.loop-i.i ≡ c.args.count = omega arith in rw e at c.loop-i.invariant

@@ -1,10 +1,6 @@
-use Prim.Native.Nat.{◌-◌, ◌≤◌}
 use Rattle.load_page.specs.Pages.{page_of}
 use Rattle.load_sections.specs.Pages.{WrotePages}
 use Rattle.load_sections.proofs.load_pages.Given as goal
 
 abbrev pub invariant-loop-i : goal.invariant-loop-i
-invariant-loop-i l = (l.i ≤ l.count) × WrotePages (page_of l.section l.flash) l.i l.initial.ram l.initial.next.left l.ram l.next.left
-
-abbrev pub decreases-loop-i : goal.decreases-loop-i
-decreases-loop-i l = l.count - l.i
+invariant-loop-i l = WrotePages (page_of l.section l.flash) l.i l.initial.ram l.initial.next.left l.ram l.next.left

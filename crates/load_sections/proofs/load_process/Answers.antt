@@ -1,16 +1,13 @@
+use Rattle.std.proofs.Common.{arith}
 use Rattle.writing.specs.Uses.{wrote_gather_none, wrote_gather_next}
 use Rattle.load_sections.proofs.Turns.{process_end}
-use native.Mathlib.Omega.{arith}
-use borrow.Author.Rules.{rules}
 use Rattle.load_sections.proofs.load_process.Goals as goal
 
 pub loop-j-init : goal.loop-j-init
-loop-j-init c = (search rules, wrote_gather_none _ _ _ _)
+loop-j-init c = wrote_gather_none _ _ _ _
 
 pub loop-j-preserved : goal.loop-j-preserved
-loop-j-preserved c =
-    let call = c in
-    (omega arith, wrote_gather_next _ _ _ call.loop-j.invariant.1 call.load_section-next.ensures)
+loop-j-preserved c = wrote_gather_next _ _ _ c.loop-j.invariant c.load_section-next.ensures
 
 pub returns : goal.returns
-returns c = process_end _ _ _ _ _ c.loop-j.invariant.1 (omega (arith, c.read_process-process.ensures.sections_of_is))
+returns c = process_end _ _ _ _ _ c.loop-j.invariant (omega (arith, c.read_process-process.ensures.sections_of_is))

@@ -1,4 +1,3 @@
-use Prim.Native.Nat.{◌-◌, ◌≤◌}
 use Rattle.notation.specs.Lists.{gather}
 use Rattle.writing.specs.Uses.{Wrote}
 use Rattle.writing.specs.Loaded.{section_content}
@@ -7,7 +6,4 @@ use Rattle.rules.specs.Order.{section_pages}
 use Rattle.load_sections.proofs.load_process.Given as goal
 
 abbrev pub invariant-loop-j : goal.invariant-loop-j
-invariant-loop-j l = (l.j ≤ l.count) × Wrote (section_content l.block l.flash) (gather l.j (section_pages l.block (marked l.xip) l.q)) l.initial.ram l.initial.next.left l.ram l.next.left
-
-abbrev pub decreases-loop-j : goal.decreases-loop-j
-decreases-loop-j l = l.count - l.j
+invariant-loop-j l = Wrote (section_content l.block l.flash) (gather l.j (section_pages l.block (marked l.xip) l.q)) l.initial.ram l.initial.next.left l.ram l.next.left

@@ -1,4 +1,4 @@
-use Prim.Native.Nat.{◌+◌, ◌-◌, ◌≤◌}
+use Rattle.std.proofs.Common.{◌+◌}
 use Rattle.notation.specs.Lists.{gather}
 use Rattle.rules.specs.Order.{section_uses}
 use Rattle.xip_sections.specs.Marks.{marked}
@@ -7,7 +7,4 @@ use Rattle.writing.specs.Loaded.{section_content}
 use Rattle.load_sections.proofs.load_sections.Given as goal
 
 abbrev pub invariant-loop-i : goal.invariant-loop-i
-invariant-loop-i l = (l.i ≤ l.users) × Wrote (section_content l.block l.flash) (gather l.i (λ i. section_uses l.block (marked l.xip) (i + 2))) l.initial.ram l.initial.next.left l.ram l.next.left
-
-abbrev pub decreases-loop-i : goal.decreases-loop-i
-decreases-loop-i l = l.users - l.i
+invariant-loop-i l = Wrote (section_content l.block l.flash) (gather l.i (λ i. section_uses l.block (marked l.xip) (i + 2))) l.initial.ram l.initial.next.left l.ram l.next.left

@@ -1,5 +1,5 @@
-use native.Mathlib.Nat.{div-zero}
+use Rattle.std.proofs.Math.Nat.{div-zero}
 use Rattle.numbers.proofs.bit.Goals as goal
 
-pub returns-then-k-eq0 : goal.returns-then-k-eq0
-returns-then-k-eq0 c = rw (c.if-k-eq0.true, div-zero c.args.n)
+pub returns-else-k-ne0 : goal.returns-else-k-ne0
+returns-else-k-ne0 c = rw (c.if-k-ne0.false, div-zero c.args.n)

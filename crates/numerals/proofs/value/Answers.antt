@@ -1,31 +1,25 @@
-use Prim.Native.Nat.{◌*◌, ◌≤◌}
-use native.Mathlib.Nat.{mul-le-mul}
-use Rattle.numerals.proofs.Digits.{valued_none, valued_next, valued_all}
-use native.Mathlib.Omega.{arith}
+use Rattle.std.proofs.Common.{arith, refl}
+use Rattle.numerals.proofs.Digits.{value_step, value_next, value_all}
 use Rattle.numerals.proofs.value.Goals as goal
 
-pub loop-i-init : goal.loop-i-init
-loop-i-init c = valued_none _ _ _
+pub loop-c-init : goal.loop-c-init
+loop-c-init c = (omega arith, refl)
 
-pub overflow_mul-v : goal.overflow_mul-v
-overflow_mul-v c =
-    let l = c in
-    let h : l.loop-i.v * l.args.base ≤ 4294967296 * 16 = mul-le-mul {n₂ = 4294967296} {m₂ = 16} l.loop-i.invariant.small l.requires.1 in
-    omega arith
+pub returns-in_err-checked_mul : goal.returns-in_err-checked_mul
+returns-in_err-checked_mul c = rw c.from_residual.ensures
+    (λ h. c.in_err-checked_mul.ensures (omega (arith, value_next _ _ _ _ _ c.requires.0 c.loop-c.invariant.1 c.loop-c-test.true refl)))
 
-pub overflow_add-v : goal.overflow_add-v
-overflow_add-v c =
-    let l = c in
-    let h : l.loop-i.v * l.args.base ≤ 4294967296 * 16 = mul-le-mul {n₂ = 4294967296} {m₂ = 16} l.loop-i.invariant.small l.requires.1 in
-    omega arith
+pub returns-in_err-v : goal.returns-in_err-v
+returns-in_err-v c = rw c.from_residual-in_err-v.ensures
+    (λ h. c.in_err-v.ensures (omega (arith, value_next _ _ _ _ _ c.requires.0 c.loop-c.invariant.1 c.loop-c-test.true c.digit_value.ensures.value, c.in_ok-checked_mul.ensures.1)))
 
-pub loop-i-preserved : goal.loop-i-preserved
-loop-i-preserved c =
-    let s₁ = c in
-    let s₂ = s₁ in
-    let s₃ = s₂ in
-    let s₄ = s₃ in
-    valued_next _ _ _ _ _ s₄.requires.0 s₃.loop-i.invariant s₂.loop-i-test.true s₁.digit_value.ensures.0 c.at_most-v.ensures
+pub loop-c-preserved : goal.loop-c-preserved
+loop-c-preserved c = (
+  omega (arith, c.in_ok-v.ensures),
+  rw (c.in_ok-v.ensures.1, c.in_ok-checked_mul.ensures.1) (value_step _ _ _ _ _ c.loop-c.invariant.1 c.loop-c-test.true c.digit_value.ensures.value),
+)
 
 pub returns : goal.returns
-returns c = valued_all _ _ _ _ c.loop-i.invariant c.loop-i-test.false
+returns c =
+    let e = value_all _ _ _ _ c.loop-c.invariant.1 c.loop-c-test.false in
+    (omega (arith, e), e)

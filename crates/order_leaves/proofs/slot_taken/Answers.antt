@@ -1,28 +1,27 @@
-use mathlib.Core.Path.{◌≡◌, refl, sym, ◌∙◌}
+use Rattle.std.proofs.Common.{◌≡◌, refl, sym, ◌∙◌, arith, le-leb}
+use borrow.Author.Tests.{lt-leb}
+use Rattle.laws.specs.Choice.{choose_yes, choose_no, and_both, and_not_left, and_not_right}
 use Rattle.order_leaves.proofs.TakenSlots.{taken_none, taken_last}
-use Rattle.laws.specs.Choice.{choose_yes, choose_no}
-use native.Mathlib.Omega.{arith}
 use Rattle.order_leaves.proofs.slot_taken.Goals as goal
+use Rattle.order_leaves.proofs.slot_taken.Goals.{else-section-m-via-then-section-m+else-m-section, else-section-m-via-else-section-m}
 
 pub loop-i-init : goal.loop-i-init
-loop-i-init c = (omega arith, refl)
+loop-i-init c = refl
 
-pub returns-then-both : goal.returns-then-both
-returns-then-both c =
-    let l = c in
+pub returns-then-m-section : goal.returns-then-m-section
+returns-then-m-section c =
     let read = c.read_section-section.ensures in
-    sym (l.loop-i.invariant.1 ∙ taken_last _ _ _ _ (omega arith) (omega arith) read.first_page read.last_page ∙ choose_yes _ _ (sym c.both.ensures ∙ c.if-both.true))
+    let both = and_both (le-leb _ _ c.if-section-m.true) (le-leb _ _ c.if-m-section.true) in
+    sym (c.loop-i.invariant ∙ taken_last _ _ _ _ (omega arith) (omega arith) read.first_page read.last_page ∙ choose_yes _ _ both)
 
 pub loop-i-preserved : goal.loop-i-preserved
 loop-i-preserved c =
-    let l = c in
-    let read = c.read_section-section.ensures in (
-      omega arith,
-      l.loop-i.invariant.1 ∙ taken_last _ _ _ _ (omega arith) (omega arith) read.first_page read.last_page ∙ choose_no _ _ (sym c.both.ensures ∙ c.if-both.false),
-    )
+    let read = c.read_section-section.ensures in
+    c.loop-i.invariant ∙ taken_last _ _ _ _ (omega arith) (omega arith) read.first_page read.last_page ∙ choose_no _ _
+    (elim c.else-section-m.branch [
+      | else-section-m-via-then-section-m+else-m-section w ↦ and_not_right _ (lt-leb _ _ w.if-m-section.false)
+      | else-section-m-via-else-section-m w ↦ and_not_left _ (lt-leb _ _ w.if-section-m.false)
+    ])
 
 pub returns : goal.returns
-returns c =
-    let l = c.loop-i in
-    let e : l.i ≡ 0 = omega arith in
-    sym (l.invariant.1 ∙ rw e (taken_none _ _ _))
+returns c = let e : c.loop-i.i ≡ 0 = omega arith in sym (c.loop-i.invariant ∙ rw e (taken_none _ _ _))

@@ -1,5 +1,5 @@
 use Rattle.order_laws.specs.Places.{section_place}
-use native.Mathlib.Omega.{arith}
+use Rattle.std.proofs.Common.{arith}
 use Rattle.order_places.proofs.section_place.Goals as goal
 
 pub returns : goal.returns

@@ -1,5 +1,5 @@
 use Rattle.order_laws.specs.Places.{tracker_place}
-use borrow.Author.Rules.{rules}
+use Rattle.std.proofs.Common.{rules}
 use Rattle.order_places.proofs.tracker_place.Goals as goal
 
 pub returns : goal.returns

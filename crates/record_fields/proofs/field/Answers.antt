@@ -1,28 +1,17 @@
-use mathlib.Core.Path.{◌≡◌, ◌∙◌}
-use native.Mathlib.Omega.{arith}
-use Rattle.notation.specs.Choice.{choose}
-use Rattle.record_fields.specs.Fields.{hash, fields}
-use Rattle.record_fields.proofs.Fields.{field_first, field_next, field_none, field_here}
+use Rattle.std.proofs.Common.{rules, refl, ◌≡◌, ◌∙◌, slice_get, tests}
+use Rattle.std.specs.Option.{option_map}
+use Rattle.std.proofs.lemmas.Iterator.Consumers.{YieldsList-from_filter, YieldsList-at, nth_from_yields_List}
+use Rattle.std.proofs.lemmas.Iterator.Splits.{YieldsList-from_slice_split}
+use Rattle.record_fields.specs.Fields.{separator, hash, fields}
+use Rattle.record_fields.proofs.Pieces.{has_elements, parts_non_empty, now_or}
 use Rattle.record_fields.proofs.field.Goals as goal
 
-pub loop-k-init : goal.loop-k-init
-loop-k-init c = (omega arith, field_first _ _ c.field_start-at.ensures.0)
-
-pub returns-then-text-at : goal.returns-then-text-at
-unfolding fields hash
-returns-then-text-at c =
-    let l = c in
-    c.tail.ensures ∙ field_none _ l.loop-k.invariant.1 c.if-text-at.true l.loop-k.invariant.0 ∙ rw l.before-text.ensures
-
-pub loop-k-preserved : goal.loop-k-preserved
-loop-k-preserved c =
-    let l = c in
-    let end = c.field_end-end.ensures in
-    (omega arith, field_next _ _ _ l.loop-k.invariant.1 c.if-text-at.false _ end.0 _ end.1 c.field_start-at-in-loop-k.ensures.0)
-
 pub returns : goal.returns
-unfolding fields hash choose
+unfolding fields hash
 returns c =
-    let l = c in
-    let all : l.loop-k.k ≡ l.args.n = omega (arith, l.loop-k.invariant.0) in
-    c.part.ensures ∙ rw (c.run.ensures, c.tail-rest.ensures) (field_here l.loop-k.invariant.1 ∙ rw (all, l.before-text.ensures))
+    let all : option_map (λ x. x.now) c.nth.result ≡ slice_get (fields c.args.line.now) c.args.n = nth_from_yields_List c.nth.result _ c.args.n c.nth.ensures.ran
+    (YieldsList-from_filter _ has_elements
+    (YieldsList-at c.filter.ensures.source (YieldsList-from_slice_split _ separator _ c.split.ensures.rest c.split.ensures.done c.split.ensures.closure (λ x b q k. search (rules, tests))))
+    c.filter.ensures.closure (λ x b q k. search (rules, tests)))
+    ∙ rw (parts_non_empty, c.before-2.ensures) in
+    rw c.unwrap_or.ensures (now_or _ _ (fields c.args.line.now) c.args.n refl all)

@@ -1,45 +1,49 @@
-use mathlib.Core.Path.{◌∙◌}
+use Rattle.std.proofs.lemmas.Result.{err_from_is_err_and}
 use Rattle.record_lines.specs.Lines.{line_of}
-use Rattle.record_lines.proofs.Lines.{said_empty, said_unknown, said_count, said_numbered}
-use native.Mathlib.Omega.{arith}
+use Rattle.record_lines.specs.declared.Kind.TheVariants.{Process, Section, Region}
+use Rattle.record_lines.proofs.Lines.{said_empty, said_unknown, said_numbers}
 use Rattle.record_lines.proofs.read_line.Goals as goal
 
-pub returns-then-count-eq0 : goal.returns-then-count-eq0
+pub returns-then-field_count-eq0 : goal.returns-then-field_count-eq0
 unfolding line_of
-returns-then-count-eq0 c = said_empty _ _ c.field_count-count.ensures c.if-count-eq0.true
+returns-then-field_count-eq0 c = said_empty _ _ c.field_count.ensures c.if-field_count-eq0.true
 
-pub returns-then-n-eq0 : goal.returns-then-n-eq0
+pub returns-in-None : goal.returns-in-None
 unfolding line_of
-returns-then-n-eq0 c =
-    let s₁ = c in
-    let s₂ = s₁ in
-    let s₃ = s₂ in
-    let s₄ = s₃ in
-    let s₅ = s₄ in
-    said_unknown _ _ s₅.field_count-count.ensures s₄.if-count-eq0.false _ (rw s₃.field.ensures at s₂.read_word-word.ensures) _ s₁.numbers_after-n.ensures.0 c.if-n-eq0.true
+returns-in-None c = said_unknown _ _ c.field_count.ensures c.if-field_count-eq0.false (rw c.field.ensures at c.in-None.ensures)
 
-pub returns-then-count-n : goal.returns-then-count-n
+pub returns-in_err-read_numbers-in-Some-Process : goal.returns-in_err-read_numbers-in-Some-Process
 unfolding line_of
-returns-then-count-n c =
-    let s₁ = c in
-    let s₂ = s₁ in
-    let s₃ = s₂ in
-    let s₄ = s₃ in
-    let s₅ = s₄ in
-    let s₆ = s₅ in
-    said_count _ _ s₆.field_count-count.ensures s₅.if-count-eq0.false _ (rw s₄.field.ensures at s₃.read_word-word.ensures) _ s₂.numbers_after-n.ensures.0 s₁.if-n-eq0.false c.if-count-n.true
+returns-in_err-read_numbers-in-Some-Process c =
+    let p = err_from_is_err_and c.from_residual.result c.from_residual.ensures.1 in
+    rw (p.1, p.2)
+    (said_numbers _ _ c.field_count.ensures c.if-field_count-eq0.false Process _ (rw (c.in-Some-Process.field-0-is, c.field.ensures) at c.in-Some-Process.ensures) c.in_err-read_numbers-in-Some-Process.ensures)
 
-pub read_numbered-requires : goal.read_numbered-requires
-read_numbered-requires c = (c.field_count-count.ensures, omega arith)
-
-pub returns : goal.returns
+pub returns-in_ok-read_numbers-in-Some-Process : goal.returns-in_ok-read_numbers-in-Some-Process
 unfolding line_of
-returns c =
-    let s₁ = c in
-    let s₂ = s₁ in
-    let s₃ = s₂ in
-    let s₄ = s₃ in
-    let s₅ = s₄ in
-    let s₆ = s₅ in
-    let s₇ = s₆ in
-    c.read_numbered.ensures ∙ said_numbered _ _ s₇.field_count-count.ensures s₆.if-count-eq0.false _ (rw s₅.field.ensures at s₄.read_word-word.ensures) _ s₃.numbers_after-n.ensures.0 s₂.if-n-eq0.false s₁.if-count-n.false
+returns-in_ok-read_numbers-in-Some-Process c =
+    said_numbers _ _ c.field_count.ensures c.if-field_count-eq0.false Process _ (rw (c.in-Some-Process.field-0-is, c.field.ensures) at c.in-Some-Process.ensures) c.in_ok-read_numbers-in-Some-Process.ensures
+
+pub returns-in_err-read_numbers-in-Some-Section : goal.returns-in_err-read_numbers-in-Some-Section
+unfolding line_of
+returns-in_err-read_numbers-in-Some-Section c =
+    let p = err_from_is_err_and c.from_residual-in_err-read_numbers-in-Some-Section.result c.from_residual-in_err-read_numbers-in-Some-Section.ensures.1 in
+    rw (p.1, p.2)
+    (said_numbers _ _ c.field_count.ensures c.if-field_count-eq0.false Section _ (rw (c.in-Some-Section.field-0-is, c.field.ensures) at c.in-Some-Section.ensures) c.in_err-read_numbers-in-Some-Section.ensures)
+
+pub returns-in_ok-read_numbers-in-Some-Section : goal.returns-in_ok-read_numbers-in-Some-Section
+unfolding line_of
+returns-in_ok-read_numbers-in-Some-Section c =
+    said_numbers _ _ c.field_count.ensures c.if-field_count-eq0.false Section _ (rw (c.in-Some-Section.field-0-is, c.field.ensures) at c.in-Some-Section.ensures) c.in_ok-read_numbers-in-Some-Section.ensures
+
+pub returns-in_err-read_numbers-in-Some-Region : goal.returns-in_err-read_numbers-in-Some-Region
+unfolding line_of
+returns-in_err-read_numbers-in-Some-Region c =
+    let p = err_from_is_err_and c.from_residual-in_err-read_numbers-in-Some-Region.result c.from_residual-in_err-read_numbers-in-Some-Region.ensures.1 in
+    rw (p.1, p.2)
+    (said_numbers _ _ c.field_count.ensures c.if-field_count-eq0.false Region _ (rw (c.in-Some-Region.field-0-is, c.field.ensures) at c.in-Some-Region.ensures) c.in_err-read_numbers-in-Some-Region.ensures)
+
+pub returns-in_ok-read_numbers-in-Some-Region : goal.returns-in_ok-read_numbers-in-Some-Region
+unfolding line_of
+returns-in_ok-read_numbers-in-Some-Region c =
+    said_numbers _ _ c.field_count.ensures c.if-field_count-eq0.false Region _ (rw (c.in-Some-Region.field-0-is, c.field.ensures) at c.in-Some-Region.ensures) c.in_ok-read_numbers-in-Some-Region.ensures

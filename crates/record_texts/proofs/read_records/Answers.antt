@@ -1,53 +1,45 @@
-use mathlib.Core.Path.{sym, ◌∙◌}
-use Rattle.text.proofs.Appended.{appended_length}
-use Rattle.record_texts.specs.Texts.{line_feed}
-use Rattle.record_texts.proofs.Reading.{reading_none, reading_next, reading_fault, reading_end}
+use Rattle.std.proofs.Common.{◌≡◌, sym, ap, ◌∙◌, refl, Ok, Some, None}
+use Rattle.record_lines.specs.declared.Record.TheVariants.{Process, Section, Region}
+use Rattle.record_lines.specs.Lines.{line_of}
+use Rattle.record_texts.specs.Texts.{Line, process_words, section_words, region_words}
+use Rattle.record_texts.proofs.Reading.{reading_none, reading_next, reading_fault, reading_end, stays}
 use Rattle.record_texts.proofs.read_records.Goals as goal
+use Rattle.record_texts.proofs.read_records.Goals.{in-Some-Process, in-Some-Section, in-Some-Region, in-None}
 
-pub loop-at-init : goal.loop-at-init
-loop-at-init c = reading_none _ _ _ _ _ c.mark_length-at.ensures.0 c.mark_length-at.ensures.1
+pub loop-rest-init : goal.loop-rest-init
+loop-rest-init c = reading_none _ _ _ _ _ c.without_mark-rest.ensures
 
-pub shape_of-processes-then-is_faulty : goal.shape_of-processes-then-is_faulty
-shape_of-processes-then-is_faulty c = appended_length c.loop-at.invariant.processes
+pub returns-in_default : goal.returns-in_default
+returns-in_default c = reading_fault _ _ _ _ c.loop-rest.invariant (sym c.is_empty.ensures ∙ c.loop-rest-test.true) _ c.cut_line.ensures.line _ c.read_line.ensures (rw c.in_default.is)
 
-pub shape_of-sections-then-is_faulty : goal.shape_of-sections-then-is_faulty
-shape_of-sections-then-is_faulty c = appended_length c.loop-at.invariant.sections
-
-pub shape_of-regions-then-is_faulty : goal.shape_of-regions-then-is_faulty
-shape_of-regions-then-is_faulty c = appended_length c.loop-at.invariant.regions
-
-pub returns-then-is_faulty : goal.returns-then-is_faulty
-unfolding line_feed
-returns-then-is_faulty c =
-    let s₁ = c in
-    let s₂ = s₁ in
-    let s₃ = s₂ in
-    let s₄ = s₃ in
-    let s₅ = s₄ in
-    reading_fault _ _ _ _ s₅.loop-at.invariant s₄.loop-at-test.true _ (rw s₃.tail.ensures at (rw s₂.before-in-loop-at.ensures at s₂.read_line-line.ensures)) (sym s₁.is_faulty.ensures ∙ c.if-is_faulty.true)
-
-pub loop-at-preserved : goal.loop-at-preserved
-unfolding line_feed
-loop-at-preserved c =
-    let s₁ = c in
-    let s₂ = s₁ in
-    let s₃ = s₂ in
-    let s₄ = s₃ in
-    let s₅ = s₄ in
-    let s₆ = s₅ in
-    let s₇ = s₆ in
-    let s₈ = s₇ in
-    let s₉ = s₈ in
-    reading_next _ _ _ _ s₉.loop-at.invariant s₈.loop-at-test.true _ (rw s₇.tail.ensures at (rw s₆.before-in-loop-at.ensures at s₆.read_line-line.ensures)) (sym s₅.is_faulty.ensures ∙ s₄.if-is_faulty.false) s₃.put_process-p.ensures s₂.put_section-s.ensures s₁.put_region-r.ensures _ c.next_line-at.ensures
-
-pub shape_of-processes : goal.shape_of-processes
-shape_of-processes c = appended_length c.loop-at.invariant.processes
-
-pub shape_of-sections : goal.shape_of-sections
-shape_of-sections c = appended_length c.loop-at.invariant.sections
-
-pub shape_of-regions : goal.shape_of-regions
-shape_of-regions c = appended_length c.loop-at.invariant.regions
+pub loop-rest-preserved : goal.loop-rest-preserved
+loop-rest-preserved c =
+    let some = sym c.is_empty.ensures ∙ c.loop-rest-test.true in
+    let inv = c.loop-rest.invariant in
+    elim c.match-record.branch [
+      | in-Some-Process w ↦
+          let e : ◌≡◌ {A = Line} (Ok (Some (Process w.in-Some-Process.words))) (line_of c.cut_line.result.0.now) =
+          let f : w.in-Some-Process.field-0 ≡ Process w.in-Some-Process.words = rw w.in-Some-Process.is at w.in-Some-Process.field-0-is in
+          sym (c.in-Ok.is ∙ ap Ok (w.in-Some-Process.is ∙ ap Some f)) ∙ c.read_line.ensures in
+          rw (w.processes-is, w.sections-is, w.regions-is, w.read-is)
+          (reading_next _ _ _ _ inv some _ c.cut_line.ensures.line _ e refl _ c.cut_line.ensures.after w.put_words.ensures (stays _ _ _ _ inv section_words inv.sections) (stays _ _ _ _ inv region_words inv.regions))
+      | in-Some-Section w ↦
+          let e : ◌≡◌ {A = Line} (Ok (Some (Section w.in-Some-Section.words))) (line_of c.cut_line.result.0.now) =
+          let f : w.in-Some-Section.field-0 ≡ Section w.in-Some-Section.words = rw w.in-Some-Section.is at w.in-Some-Section.field-0-is in
+          sym (c.in-Ok.is ∙ ap Ok (w.in-Some-Section.is ∙ ap Some f)) ∙ c.read_line.ensures in
+          rw (w.processes-is, w.sections-is, w.regions-is, w.read-is)
+          (reading_next _ _ _ _ inv some _ c.cut_line.ensures.line _ e refl _ c.cut_line.ensures.after (stays _ _ _ _ inv process_words inv.processes) w.put_words-in-Some-Section.ensures (stays _ _ _ _ inv region_words inv.regions))
+      | in-Some-Region w ↦
+          let e : ◌≡◌ {A = Line} (Ok (Some (Region w.in-Some-Region.words))) (line_of c.cut_line.result.0.now) =
+          let f : w.in-Some-Region.field-0 ≡ Region w.in-Some-Region.words = rw w.in-Some-Region.is at w.in-Some-Region.field-0-is in
+          sym (c.in-Ok.is ∙ ap Ok (w.in-Some-Region.is ∙ ap Some f)) ∙ c.read_line.ensures in
+          rw (w.processes-is, w.sections-is, w.regions-is, w.read-is)
+          (reading_next _ _ _ _ inv some _ c.cut_line.ensures.line _ e refl _ c.cut_line.ensures.after (stays _ _ _ _ inv process_words inv.processes) (stays _ _ _ _ inv section_words inv.sections) w.put_words-in-Some-Region.ensures)
+      | in-None w ↦
+          let e : ◌≡◌ {A = Line} (Ok None) (line_of c.cut_line.result.0.now) = sym (c.in-Ok.is ∙ ap Ok w.in-None.is) ∙ c.read_line.ensures in
+          rw (w.processes-is, w.sections-is, w.regions-is, w.read-is)
+          (reading_next _ _ _ _ inv some _ c.cut_line.ensures.line _ e refl _ c.cut_line.ensures.after (stays _ _ _ _ inv process_words inv.processes) (stays _ _ _ _ inv section_words inv.sections) (stays _ _ _ _ inv region_words inv.regions))
+    ]
 
 pub returns : goal.returns
-returns c = reading_end _ _ _ _ c.loop-at.invariant c.loop-at-test.false
+returns c = reading_end _ _ _ _ c.loop-rest.invariant (sym c.is_empty.ensures ∙ c.loop-rest-test.false)

@@ -3,4 +3,4 @@ use Rattle.report.proofs.boot_line.Goals as goal
 
 pub returns : goal.returns
 unfolding boot_line
-returns c = c.put_two_numbers.ensures
+returns c = rw c.from.ensures at c.put_two_numbers.ensures

@@ -1,11 +1,7 @@
-use Rattle.text.proofs.Appended.{appended_then}
+use Rattle.text.proofs.Appended.{puts_then}
 use Rattle.report.specs.Lines.{process_line}
 use Rattle.report.proofs.process_line.Goals as goal
 
 pub returns : goal.returns
 unfolding process_line
-returns c =
-    let last = c in
-    let root = last in
-    let start = root in
-    appended_then start.put_two_numbers-table.ensures (appended_then root.put_hex-end.ensures last.put.ensures)
+returns c = rw (c.from.ensures, c.from-2.ensures) at (puts_then c.put_two_numbers.ensures (puts_then c.put_hex.ensures c.put.ensures))

@@ -1,14 +1,14 @@
-use Rattle.rules.specs.Lent.{image_of}
-use Rattle.order_roots.specs.declared.Root.TheVariants.{Nowhere, At}
+use Rattle.std.proofs.Common.{rules, ◌≡◌, Some, sym, ◌∙◌}
+use Rattle.types.specs.declared.PhysPage.{PhysPage}
+use Rattle.lent.specs.Lent.{image}
 use Rattle.report.proofs.Owned.{root_is}
 use Rattle.report.proofs.root_page.Goals as goal
 
-pub returns-in-Nowhere : goal.returns-in-Nowhere
-returns-in-Nowhere c =
-    let start = c in
-    root_is (image_of start.args.block.now start.args.flash_start start.args.flash.now) _ _ _ Nowhere start.requires.0 start.requires.1 start.requires.2 c.find_root.ensures c.in-Nowhere.is
+some_same : (P P' : PhysPage) → Some P ≡ Some P' → P.0 ≡ P'.0
+some_same P P' e = cc
 
-pub returns-in-At : goal.returns-in-At
-returns-in-At c =
-    let start = c in
-    root_is (image_of start.args.block.now start.args.flash_start start.args.flash.now) _ _ _ (At _) start.requires.0 start.requires.1 start.requires.2 c.find_root.ensures c.in-At.is
+pub unwrap-requires : goal.unwrap-requires
+unwrap-requires c = rw (c.find_root.ensures ∙ root_is (image c.args.image) c.args.ram c.args.q c.requires.0 c.requires.1 c.requires.2) (search rules)
+
+pub returns : goal.returns
+returns c = some_same _ _ (sym c.unwrap.ensures ∙ c.find_root.ensures ∙ root_is (image c.args.image) c.args.ram c.args.q c.requires.0 c.requires.1 c.requires.2)

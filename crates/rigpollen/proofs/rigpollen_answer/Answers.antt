@@ -1,9 +1,8 @@
-use mathlib.Core.Path.{ap}
-use Rattle.types.specs.declared.Answer.{Answer}
+use Rattle.std.proofs.Common.{ap, ◌∙◌}
+use Rattle.rigpollen.specs.Words.{answer_words}
 use Rattle.rigpollen.proofs.rigpollen_answer.Goals as goal
 
 pub returns : goal.returns
 returns c =
-    let told = c in
-    let loaded = told.load-full.ensures in
-    (ap (λ (a : Answer). a.number) loaded.0, loaded.1, rw (← loaded.0) told.tell_answer.ensures)
+    let words = c.answer_words.ensures ∙ ap answer_words (rw c.image-image.ensures at c.load-full.ensures.answer) in
+    (rw words at c.tell.ensures.number, rw c.image-image.ensures at c.load-full.ensures.ram, rw words at c.tell.ensures.words)

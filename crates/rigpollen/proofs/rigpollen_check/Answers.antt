@@ -1,9 +1,8 @@
-use mathlib.Core.Path.{ap}
-use Rattle.types.specs.declared.Answer.{Answer}
+use Rattle.std.proofs.Common.{ap, ◌∙◌}
+use Rattle.rigpollen.specs.Words.{answer_words}
 use Rattle.rigpollen.proofs.rigpollen_check.Goals as goal
 
 pub returns : goal.returns
 returns c =
-    let told = c in
-    let full = told.answer_on-full.ensures in
-    (ap (λ (a : Answer). a.number) full, rw (← full) told.tell_answer.ensures)
+    let words = c.answer_words.ensures ∙ ap answer_words (rw c.image-image.ensures at c.answer_on-full.ensures) in
+    (rw words at c.tell.ensures.number, rw words at c.tell.ensures.words)

@@ -1,6 +1,6 @@
-use mathlib.Core.Path.{ap}
-use Rattle.types.specs.declared.Answer.{Answer}
 use Rattle.rigpollen.proofs.rigpollen_load.Goals as goal
 
 pub returns : goal.returns
-returns c = (ap (λ (a : Answer). a.number) c.load-answer.ensures.0, c.load-answer.ensures.1)
+returns c =
+    let answered = rw c.image-image.ensures at c.load.ensures.answer in
+    (rw (c.answer_words.ensures, answered), rw c.image-image.ensures at c.load.ensures.ram)

@@ -1,9 +1,7 @@
-use mathlib.Core.Path.{ap}
-use lib.ListN.{length}
+use Rattle.std.proofs.Common.{ap, length}
 use Rattle.rigpollen.proofs.rigpollen_page.Goals as goal
 
 pub returns : goal.returns
 returns c =
-    let put = c in
-    let found = put.page-part.ensures in
-    (ap length found, rw (← found) put.copy_in.ensures)
+    let found = c.page-part.ensures in
+    (ap length found, rw (← found) c.copy_in.ensures)

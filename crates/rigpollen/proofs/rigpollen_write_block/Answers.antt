@@ -1,9 +1,8 @@
-use mathlib.Core.Path.{ap}
-use Rattle.types.specs.declared.Written.{Written}
+use Rattle.std.proofs.Common.{ap, ◌∙◌}
+use Rattle.rigpollen.specs.Words.{written_words}
 use Rattle.rigpollen.proofs.rigpollen_write_block.Goals as goal
 
 pub returns : goal.returns
 returns c =
-    let told = c in
-    let wrote = told.write_block-full.ensures in
-    (ap (λ (w : Written). w.number) wrote.0, wrote.1, rw (← wrote.0) told.tell_written.ensures)
+    let words = c.written_words.ensures ∙ ap written_words c.write_block-full.ensures.answer in
+    (rw words at c.tell.ensures.number, c.write_block-full.ensures.buffer, rw words at c.tell.ensures.words)

@@ -1,5 +1,5 @@
-use mathlib.Core.Path.{sym}
-use lib.ListN.{get_or-eq_default}
+use Rattle.std.proofs.Common.{sym}
+use Rattle.std.proofs.Math.ListN.{get_or-eq_default}
 use Rattle.slices.proofs.byte.Goals as goal
 
 pub returns-else-at-s : goal.returns-else-at-s

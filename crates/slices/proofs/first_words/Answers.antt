@@ -1,10 +1,12 @@
-use Rattle.notation.specs.Words.{word}
+use Rattle.slices.proofs.Parts.{word_joined}
 use Rattle.slices.proofs.first_words.Goals as goal
 
 pub returns : goal.returns
-unfolding word
 returns c =
-    let c3 = c in
-    let c2 = c3 in
-    let c1 = c2 in
-    record { first = c1.joined.ensures; second = c2.joined-2.ensures; third = c3.joined-3.ensures; fourth = c.joined-4.ensures }
+    let l = c.args.s.now in
+    record {
+      first = word_joined l 0 c.from_le_bytes.ensures;
+      second = word_joined l 4 c.from_le_bytes-2.ensures;
+      third = word_joined l 8 c.from_le_bytes-3.ensures;
+      fourth = word_joined l 12 c.from_le_bytes-4.ensures;
+    }

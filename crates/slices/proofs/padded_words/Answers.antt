@@ -1,5 +1,5 @@
-use native.Mathlib.Omega.{arith}
-use lib.ListN.{get_or-replicate}
+use Rattle.std.proofs.Common.{arith}
+use Rattle.std.proofs.lemmas.List.{get_or-replicate}
 use Rattle.slices.proofs.Parts.{words_padded}
 use Rattle.slices.proofs.padded_words.Goals as goal
 

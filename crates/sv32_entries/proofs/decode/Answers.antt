@@ -1,22 +1,27 @@
-use borrow.Author.Tests.{eq-eqb, ne_eqb}
+use Rattle.std.proofs.Common.{◌%◌, ◌/◌, ◌≡◌, ◌≢◌, arith, refl, eq-eqb, ne_eqb}
 use Rattle.notation.specs.Choice.{choose}
-use Rattle.rules.specs.Entries.{decode, rights_in}
+use Rattle.rules.specs.Entries.{decode}
+use Rattle.sv32_entries.proofs.Flags.{valid_is_odd, access_is}
 use Rattle.sv32_entries.proofs.decode.Goals as goal
 
 pub returns-then-e-eq-RESERVED : goal.returns-then-e-eq-RESERVED
 unfolding decode choose
-returns-then-e-eq-RESERVED c = simp (eq-eqb _ _ c.if-e-eq0.true, eq-eqb _ _ c.if-e-eq-RESERVED.true)
+returns-then-e-eq-RESERVED c = rw c.if-e-eq-RESERVED.true refl
 
 pub returns-then-e-eq0 : goal.returns-then-e-eq0
 unfolding decode choose
-returns-then-e-eq0 c = simp (eq-eqb _ _ c.if-e-eq0.true, ne_eqb _ _ c.if-e-eq-RESERVED.false)
+returns-then-e-eq0 c = let h : c.args.e % 2 ≡ 0 = omega (arith, valid_is_odd c.args.e) in simp (eq-eqb _ _ h, ne_eqb _ _ c.if-e-eq-RESERVED.false)
 
 pub returns-then-e-eq0-2 : goal.returns-then-e-eq0-2
 unfolding decode choose
-returns-then-e-eq0-2 c = simp (ne_eqb _ _ c.if-e-eq0.false, eq-eqb _ _ c.if-e-eq0-2.true)
+returns-then-e-eq0-2 c =
+    let h : c.args.e % 2 ≢ 0 = omega (arith, valid_is_odd c.args.e) in
+    let a : c.args.e / 2 % 8 ≡ 0 = omega (arith, access_is c.args.e) in
+    simp (ne_eqb _ _ h, eq-eqb _ _ a)
 
-pub returns : goal.returns
-unfolding decode choose rights_in
-returns c =
-    let b = c in
-    simp (ne_eqb _ _ b.if-e-eq0.false, ne_eqb _ _ b.if-e-eq0-2.false, c.bit-read.ensures, c.bit-write.ensures, c.bit-execute.ensures, c.bit-user.ensures)
+pub returns-else-e-eq0-2 : goal.returns-else-e-eq0-2
+unfolding decode choose
+returns-else-e-eq0-2 c =
+    let h : c.args.e % 2 ≢ 0 = omega (arith, valid_is_odd c.args.e) in
+    let a : c.args.e / 2 % 8 ≢ 0 = omega (arith, access_is c.args.e) in
+    simp (ne_eqb _ _ h, ne_eqb _ _ a, c.rights_of.ensures)

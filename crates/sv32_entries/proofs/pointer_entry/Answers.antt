@@ -1,5 +1,5 @@
 use Rattle.rules.specs.Entries.{pointer_entry}
-use borrow.Author.Rules.{rules}
+use Rattle.std.proofs.Common.{rules}
 use Rattle.sv32_entries.proofs.pointer_entry.Goals as goal
 
 pub returns : goal.returns

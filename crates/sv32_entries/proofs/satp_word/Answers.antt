@@ -1,4 +1,4 @@
-use borrow.Author.Rules.{rules}
+use Rattle.std.proofs.Common.{rules}
 use Rattle.rules.specs.Entries.{satp_of}
 use Rattle.sv32_entries.proofs.satp_word.Goals as goal
 

@@ -1,15 +1,16 @@
+use Rattle.std.proofs.lemmas.Bool.{not-true, not-false}
 use Rattle.notation.specs.Choice.{choose}
 use Rattle.rules.specs.Reader.{page_answer}
 use Rattle.sv32_reader.proofs.page_answer.Goals as goal
+use Rattle.sv32_reader.proofs.page_answer.Goals.{else-t-via-then-t+else-not-t, else-t-via-else-t}
 
-pub returns-then-t-2 : goal.returns-then-t-2
+pub returns-then-not-t : goal.returns-then-not-t
 unfolding page_answer choose
-returns-then-t-2 c = simp (c.if-t.true, c.if-t-2.true)
+returns-then-not-t c = simp (c.if-t.true, not-true _ c.if-not-t.true)
 
-pub returns-then-t : goal.returns-then-t
+pub returns-else-t : goal.returns-else-t
 unfolding page_answer choose
-returns-then-t c = simp (c.if-t.true, c.if-t-2.false)
-
-pub returns : goal.returns
-unfolding page_answer choose
-returns c = simp c.if-t.false
+returns-else-t c = elim c.else-t.branch [
+  | else-t-via-then-t+else-not-t w ↦ simp (w.if-t.true, not-false _ w.if-not-t.false)
+  | else-t-via-else-t w ↦ simp w.if-t.false
+]

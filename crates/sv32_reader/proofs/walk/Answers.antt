@@ -1,8 +1,11 @@
-use Prim.Native.Nat.{◌/◌}
-use mathlib.Core.Path.{refl, sym, ◌∙◌}
-use Rattle.sv32_reader.proofs.WalkCases.{walk_page}
-use native.Mathlib.Omega.{arith}
+use Rattle.std.proofs.Common.{◌≡◌, ◌*◌, ◌/◌, arith}
+use Rattle.rules.specs.Reader.{walk}
 use Rattle.sv32_reader.proofs.walk.Goals as goal
 
 pub returns : goal.returns
-returns c = c.walk_page.ensures ∙ walk_page _ _ (c.args.address / 4096) _ (omega arith) ∙ sym (walk_page _ _ _ c.args.address refl)
+unfolding walk
+returns c =
+    let at = c.args.address in
+    let slot : 4096 * (at / 4096) / 4_194_304 ≡ at / 4_194_304 = omega arith in
+    let same : 4096 * (at / 4096) / 4096 ≡ at / 4096 = omega arith in
+    rw (slot, same) at c.walk_page.ensures

@@ -1,8 +1,11 @@
-use Rattle.rules.specs.Reader.{root_answer}
-use mathlib.Core.Path.{sym, ap, ◌∙◌}
-use Rattle.sv32_reader.proofs.WalkCases.{walk_page}
-use native.Mathlib.Omega.{arith}
+use Rattle.std.proofs.Common.{◌≡◌, ◌*◌, ◌/◌, arith, ap, ◌∙◌}
+use Rattle.rules.specs.Reader.{root_answer, walk}
 use Rattle.sv32_reader.proofs.walk_page.Goals as goal
 
 pub returns : goal.returns
-returns c = c.root_answer.ensures ∙ ap (root_answer _ _) c.table_entry.ensures ∙ sym (walk_page _ _ c.args.page.0 _ (omega arith))
+unfolding walk
+returns c =
+    let page = c.args.page.0 in
+    let slot : 4096 * page / 4_194_304 ≡ page / 1024 = omega arith in
+    let same : 4096 * page / 4096 ≡ page = omega arith in
+    rw (slot, same) (c.root_answer.ensures ∙ ap (root_answer _ _) c.table_entry-entry.ensures)

@@ -1,22 +1,10 @@
-use mathlib.Core.Path.{refl, ◌∙◌}
-use borrow.Author.Count.{falls}
+use Rattle.std.proofs.Common.{◌-◌, ◌*◌, arith}
 use Rattle.rules.specs.Entries.{reserved_entry}
 use Rattle.sv32_tables.specs.Filled.{stack_reserved}
-use Rattle.sv32_tables.proofs.Filling.{filling_none, filling_more, filling_up_to}
+use Rattle.sv32_tables.proofs.Filling.{filled_between}
 use Rattle.sv32_tables.proofs.reserve_stack.Goals as goal
 
-pub loop-i-init : goal.loop-i-init
-loop-i-init c = filling_none _ _ _ _
-
-pub loop-i-smaller : goal.loop-i-smaller
-loop-i-smaller c = falls _ _ c.loop-i-test.true
-
-pub loop-i-preserved : goal.loop-i-preserved
-unfolding reserved_entry
-loop-i-preserved c = filling_more c.loop-i.invariant c.loop-i-test.true refl
-
 pub returns : goal.returns
-unfolding stack_reserved
+unfolding stack_reserved reserved_entry
 returns c =
-    let l = c in
-    filling_up_to _ _ _ l.loop-i.invariant c.loop-i-test.false (l.minus-i.ensures ∙ rw l.minus-first.ensures) l.least-end.ensures l.minus.ensures
+    filled_between _ _ _ _ _ (c.fill.ensures.after (λ y h. h)) (1024 * c.args.slot) (0x80000 - c.args.pages) 0x80000 (omega arith) (omega arith)

@@ -1,4 +1,4 @@
-use mathlib.Core.Path.{ap, ◌∙◌}
+use Rattle.std.proofs.Common.{ap, ◌∙◌}
 use Rattle.rules.specs.Sees.{shown, seen_from}
 use Rattle.sv32_views.proofs.seen_from.Goals as goal
 

@@ -1,5 +1,5 @@
 use Rattle.two_boards.proofs.FromTheorems.{two_boards}
-use borrow.Author.Rules.{rules}
+use Rattle.std.proofs.Common.{rules}
 use Rattle.two_boards.proofs.boot_both.Goals as goal
 
 pub returns : goal.returns

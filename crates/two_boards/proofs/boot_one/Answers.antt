@@ -1,11 +1,10 @@
-use Rattle.rules.specs.Lent.{image_of, memory_of}
+use Rattle.std.proofs.Common.{rules}
+use Rattle.rules.specs.Lent.{memory_of}
+use Rattle.lent.specs.Lent.{image}
 use Rattle.two_boards.proofs.FromTheorems.{one_board}
-use borrow.Author.Rules.{rules}
 use Rattle.two_boards.proofs.boot_one.Goals as goal
 
 pub returns : goal.returns
 returns c =
-    let loaded = c in
-    let start = loaded in
-    one_board (image_of _ _ start.args.flash.now) (memory_of _ start.args.ram.now) _ _ _ _ _ _ (search rules) loaded.find_root-root.ensures
-    loaded.load-answer.ensures.0 loaded.load-answer.ensures.1 c.seen_at-seen.ensures
+    one_board (image c.args.image) (memory_of _ c.args.ram.now) _ _ _ _ _ _ (search rules) c.find_root-root.ensures
+    c.load-answer.ensures.answer c.load-answer.ensures.ram c.seen_at-seen.ensures

@@ -1,17 +1,11 @@
-use Rattle.text.proofs.Appended.{appended_then}
+use Rattle.text.proofs.Appended.{puts_then}
 use Rattle.write_report.specs.Lines.{fault_line}
 use Rattle.write_report.proofs.put_fault.Goals as goal
 
 pub returns : goal.returns
 unfolding fault_line
-returns c =
-    let s₁ = c in
-    let s₂ = s₁ in
-    let s₃ = s₂ in
-    let s₄ = s₃ in
-    let s₅ = s₄ in
-    let s₆ = s₅ in
-    appended_then s₆.put-start.ensures
-    (appended_then s₅.put_decimal-after.ensures
-    (appended_then s₄.put-colon.ensures
-    (appended_then (rw s₃.read_line.ensures at s₂.put_cause-cause.ensures) s₁.put.ensures)))
+returns c = rw (← c.requires)
+    (puts_then c.put.ensures
+    (puts_then c.put_decimal.ensures
+    (puts_then c.put-2.ensures
+    (puts_then c.put_cause.ensures c.put-3.ensures))))

@@ -1,12 +1,8 @@
-use Prim.Native.Nat.{◌-◌, ◌≤◌}
-use lib.ListN.{get_or}
+use Rattle.std.proofs.Common.{get_or}
 use Rattle.notation.specs.Lists.{tab}
-use Rattle.text.specs.Text.{Appended}
+use Rattle.text.specs.Puts.{Puts}
 use Rattle.write_report.specs.Lines.{shown_byte}
 use Rattle.write_report.proofs.put_shown_bytes.Given as goal
 
-abbrev pub invariant-loop-i : goal.invariant-loop-i
-invariant-loop-i l = (l.i ≤ l.n) × Appended l.initial.to l.at (tab l.i (λ k. shown_byte (get_or l.field k 0))) l.to l.end
-
-abbrev pub decreases-loop-i : goal.decreases-loop-i
-decreases-loop-i l = l.n - l.i
+abbrev pub invariant-loop-c : goal.invariant-loop-c
+invariant-loop-c l = Puts l.initial.out (tab l.c-index (λ k. shown_byte (get_or l.field k 0))) l.out

@@ -1,12 +1,8 @@
-use mathlib.Core.Path.{◌≡◌}
-use mathlib.Core.Bool.{false}
-use Prim.Native.Nat.{◌-◌, ◌≤◌}
+use Rattle.std.proofs.Common.{◌≡◌, false, ◌-◌, ◌≤◌, max}
 use Rattle.notation.specs.Lists.{exists}
-use Rattle.xip_sections.proofs.Deciding.{not_zero}
+use Rattle.xip_sections.proofs.Zeros.{not_zero}
 use Rattle.xip_sections.proofs.zero_between.Given as goal
 
-abbrev pub invariant-loop-k : goal.invariant-loop-k
-invariant-loop-k l = (l.k ≤ l.n) × (exists (not_zero l.s l.from) l.k ≡ false)
-
-abbrev pub decreases-loop-k : goal.decreases-loop-k
-decreases-loop-k l = l.n - l.k
+-- the bytes from `from` up to i are 0
+abbrev pub invariant-loop-i : goal.invariant-loop-i
+invariant-loop-i l = (l.i ≤ max l.from l.to) × (exists (not_zero l.s l.from) (l.i - l.from) ≡ false)

@@ -1,4 +1,4 @@
-use mathlib.Core.Path.{sym, ◌∙◌}
+use Rattle.std.proofs.Common.{sym, ◌∙◌}
 use Rattle.laws.specs.Choice.{choose_yes, choose_no}
 use Rattle.loader.proofs.leaf_entries.first_page.Goals as goal
 

@@ -1,7 +1,6 @@
-use mathlib.Core.Path.{◌≡◌, refl}
+use Rattle.std.proofs.Common.{◌≡◌, refl, true, false}
 use Rattle.notation.specs.Choice.{choose}
 use Rattle.laws.specs.Choice.{by_test}
-use mathlib.Core.Bool.{true, false}
 use Rattle.rules.specs.Space.{kernel_read, kernel_write}
 use Rattle.loader.proofs.leaf_entries.kernel_rights.Goals as goal
 

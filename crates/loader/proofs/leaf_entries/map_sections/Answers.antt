@@ -1,49 +1,34 @@
-use mathlib.Core.Path.{refl}
+use Rattle.std.proofs.Common.{refl, arith}
 use Rattle.loader.proofs.LeafEntries.{mapped_from, mapped_more, mapped_stop, mapped_all}
-use native.Mathlib.Omega.{arith}
+use Rattle.loader.proofs.Shares.{walk}
 use Rattle.loader.proofs.leaf_entries.map_sections.Goals as goal
 
 pub loop-j-init : goal.loop-j-init
 loop-j-init c =
-    let pre = c.requires in
-    (omega (arith, pre.3.inside, c.read_process-process.ensures.sections_of_is), refl, mapped_from pre.0 pre.2 pre.3 pre.4)
+    let leaf = c.args.leaf.now in
+    record { inside = leaf.passed.inside; size = refl; mapped = mapped_from leaf.share.plan.fits (walk leaf.share) leaf.passed c.requires }
 
 pub returns-then-leaf-section : goal.returns-then-leaf-section
 returns-then-leaf-section c =
-    let read = c in
-    let loop = read in
-    let process = loop.read_process-process.ensures in
-    let pre = loop.requires in
-    mapped_stop loop.loop-j.invariant.2 pre.2 process.first_section
-    (omega (arith, read.loop-j-test.true, process.sections_of_is)) read.read_section-section.ensures c.if-leaf-section.true
+    let process = c.read_process-process.ensures in
+    mapped_stop c.loop-j.invariant.mapped (walk c.args.leaf.now.share) process.first_section
+    (omega (arith, process.sections_of_is)) c.read_section-section.ensures c.if-leaf-section.true
 
 pub overflow_add-place : goal.overflow_add-place
 overflow_add-place c =
-    let read = c in
-    let loop = read in
-    let fits = loop.requires.0 in
-    omega (arith, c.pages_taken-place.ensures.1, read.read_section-section.ensures.pages_few, loop.loop-j.invariant.2.room, fits.few_pages)
-
-pub overflow_add-j : goal.overflow_add-j
-overflow_add-j c =
-    let loop = c in
-    let ok = loop.read_process-process.type_inv in
-    omega (arith, loop.loop-j-test.true)
+    omega (arith, c.pages_taken-place.ensures.1, c.read_section-section.ensures.pages_few, c.loop-j.invariant.mapped.room, c.args.leaf.now.share.plan.fits.few_pages)
 
 pub loop-j-preserved : goal.loop-j-preserved
 loop-j-preserved c =
-    let call = c in
-    let marks = call in
-    let read = marks in
-    let loop = read in
-    let process = loop.read_process-process.ensures in
-    let pre = loop.requires in (
-      omega arith,
-      omega arith,
-      mapped_more loop.loop-j.invariant.2 pre.0 pre.1 pre.2 process.first_section process.sections_of_is read.loop-j-test.true
-          read.read_section-section.ensures call.section_rights.ensures marks.is_marked-in_place.ensures call.first_page.ensures
-          c.pages_taken-place.ensures.0 call.map_pages.ensures,
-    )
+    let process = c.read_process-process.ensures in
+    let share = c.args.leaf.now.share in
+    record {
+      inside = omega (arith, process.sections_of_is);
+      size = omega arith;
+      mapped = mapped_more c.loop-j.invariant.mapped share.plan.fits share.plan.flash_numbers (walk share) process.first_section process.sections_of_is c.loop-j-test.true
+          c.read_section-section.ensures c.section_rights.ensures c.is_marked-in_place.ensures c.first_page.ensures
+          c.pages_taken-place.ensures.0 c.map_pages.ensures;
+    }
 
 pub returns : goal.returns
-returns c = mapped_all c.loop-j.invariant.2 (omega (arith, c.read_process-process.ensures.sections_of_is))
+returns c = mapped_all c.loop-j.invariant.mapped (omega (arith, c.read_process-process.ensures.sections_of_is))

@@ -1,13 +1,12 @@
-use mathlib.Core.Path.{◌≡◌}
-use Prim.Native.Nat.{◌-◌, ◌/◌, ◌≤◌}
-use lib.ListN.{length}
-use Rattle.xip_sections.specs.Marks.{marked}
+use Rattle.std.proofs.Common.{◌≡◌, ◌/◌, ◌≤◌, length}
+use Rattle.rules.specs.Block.{sections_of}
+use Rattle.loader.specs.Planned.{in_flash}
 use Rattle.loader.proofs.LeafEntries.{Mapped}
 use Rattle.loader.proofs.leaf_entries.map_sections.Given as goal
 
 abbrev pub invariant-loop-j : goal.invariant-loop-j
-invariant-loop-j l =
-    (l.j ≤ l.count) × (length l.entries ≡ length l.initial.entries) × Mapped l.block (marked l.xip) (l.flash_start / 4096) l.range l.q l.leaf.slot l.j l.place l.entries
-
-abbrev pub decreases-loop-j : goal.decreases-loop-j
-decreases-loop-j l = l.count - l.j
+invariant-loop-j l = record {
+  inside : l.j ≤ sections_of l.leaf.share.plan.block.now l.leaf.share.q;
+  size : length l.entries ≡ length l.initial.entries;
+  mapped : Mapped l.leaf.share.plan.block.now (in_flash l.leaf.share.plan) (l.leaf.share.plan.flash_start / 4096) l.leaf.share.plan.range l.leaf.share.q l.leaf.slot l.j l.place l.entries;
+}

@@ -1,42 +1,33 @@
-use mathlib.Core.Path.{◌≡◌}
+use Rattle.std.proofs.Common.{◌∙◌, arith}
 use Rattle.writing.specs.Loaded.{any_gather_none, any_gather_next}
+use Rattle.loader.proofs.LeafCursor.{leaf_inside}
+use Rattle.loader.proofs.Shares.{walk}
 use Rattle.loader.proofs.TablePages.{next_leaves, one_leaf}
-use native.Mathlib.Omega.{arith}
 use Rattle.loader.proofs.table_pages.load_leaves.Goals as goal
 
 pub loop-leaf-init : goal.loop-leaf-init
 loop-leaf-init c =
-    let f = c.first_leaf-leaf.ensures in
-    (f.first.high, f.first.here, f.passed, next_leaves _ _ _ _ _ f.first (omega arith) (any_gather_none _ _ _))
-
-pub load_leaf-requires : goal.load_leaf-requires
-load_leaf-requires c =
-    let l = c in
-    let pre = l.requires in
-    (pre.0, pre.1, pre.2, l.loop-leaf.invariant.1 (omega arith), l.loop-leaf.invariant.2)
-
-pub next_leaf-leaf-requires : goal.next_leaf-leaf-requires
-next_leaf-leaf-requires c =
-    let l = c in
-    (l.requires.2, omega arith, l.loop-leaf.invariant.2)
-
-pub loop-leaf-smaller : goal.loop-leaf-smaller
-loop-leaf-smaller c = omega (arith, c.next_leaf-leaf.ensures.first.low)
+    rw c.into_iter-leaf-iterator.ensures.into_iter_gives (record { can = tt; ends = tt; same = c.leaves-leaf-items.ensures.0; inside = omega arith; done = rw c.leaves-leaf-items.ensures.1 (any_gather_none _ _ _) })
 
 pub loop-leaf-preserved : goal.loop-leaf-preserved
 loop-leaf-preserved c =
-    let f = c.next_leaf-leaf.ensures in
-    let call = c in
-    let got = call.allocate-got.ensures in
-    let inv = call.loop-leaf.invariant in (
-      f.first.high,
-      f.first.here,
-      f.passed,
-      next_leaves _ _ _ _ _ f.first (omega arith) (any_gather_next _ _ inv.3 (one_leaf _ _ _ _ _ _ _ _ (inv.1 (omega arith)) got.1 got.0 call.load_leaf.ensures)),
-    )
+    let steps = c.in-Some.ensures.steps in
+    let inv = c.loop-leaf.invariant in
+    let leaf = c.in-Some.leaf in
+    let same = steps.0.0 ∙ inv.same in
+    let got = c.allocate-got.ensures in
+    let small = leaf_inside (walk leaf.share) leaf.slot leaf.here in
+    record {
+      can = tt;
+      ends = tt;
+      same = steps.1 ∙ inv.same;
+      inside = omega (arith, steps.2, small);
+      done = rw steps.2 (any_gather_next _ _
+          (next_leaves _ _ _ _ _ (rw inv.same at steps.0.1) inv.inside inv.done)
+          (one_leaf _ _ _ _ _ _ _ _ (rw same at leaf.here) got.1 got.0 (rw same at c.load_leaf.ensures)));
+    }
 
 pub returns : goal.returns
 returns c =
-    let l = c in
-    let e : l.loop-leaf.leaf.slot ≡ 1024 = omega (arith, l.loop-leaf.invariant.0) in
-    rw e at l.loop-leaf.invariant.3
+    let inv = c.loop-leaf.invariant in
+    next_leaves _ _ _ _ _ (rw inv.same at c.in-None.ensures.steps.0) inv.inside inv.done

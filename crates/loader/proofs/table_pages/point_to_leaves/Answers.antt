@@ -1,26 +1,29 @@
+use Rattle.std.proofs.Common.{◌∙◌, arith}
+use Rattle.loader.proofs.LeafCursor.{leaf_inside}
+use Rattle.loader.proofs.Shares.{walk}
 use Rattle.loader.proofs.TablePages.{pointing_start, pointing_next, pointing_is}
-use native.Mathlib.Omega.{arith}
 use Rattle.loader.proofs.table_pages.point_to_leaves.Goals as goal
 
 pub loop-leaf-init : goal.loop-leaf-init
 loop-leaf-init c =
-    let f = c.first_leaf-leaf.ensures in
-    (pointing_start _ _ _ c.requires.2 f.first, f.passed)
-
-pub next_leaf-leaf-requires : goal.next_leaf-leaf-requires
-next_leaf-leaf-requires c =
-    let l = c in
-    (l.requires.0, omega arith, l.loop-leaf.invariant.1)
-
-pub loop-leaf-smaller : goal.loop-leaf-smaller
-loop-leaf-smaller c = omega (arith, c.next_leaf-leaf.ensures.first.low)
+    rw c.into_iter-leaf-iterator.ensures.into_iter_gives (record { can = tt; ends = tt; same = c.leaves-leaf-items.ensures.0; inside = omega arith; done = pointing_start _ _ _ c.leaves-leaf-items.ensures.1 })
 
 pub loop-leaf-preserved : goal.loop-leaf-preserved
 loop-leaf-preserved c =
-    let call = c in
-    let l = call in
-    let f = c.next_leaf-leaf.ensures in
-    (pointing_next _ _ _ l.loop-leaf.invariant.0 l.requires.2 (omega arith) call.point_to_leaf.ensures c.minus-page.ensures f.first, f.passed)
+    let steps = c.in-Some.ensures.steps in
+    let inv = c.loop-leaf.invariant in
+    let leaf = c.in-Some.leaf in
+    let same = steps.0.0 ∙ inv.same in
+    let small = leaf_inside (walk leaf.share) leaf.slot leaf.here in
+    record {
+      can = tt;
+      ends = tt;
+      same = steps.1 ∙ inv.same;
+      inside = omega (arith, steps.2, small);
+      done = pointing_next _ _ _ inv.done c.requires inv.inside (rw inv.same at steps.0.1) (rw same at leaf.here) small steps.2 c.point_to_leaf.ensures c.saturating_sub-page.ensures;
+    }
 
 pub returns : goal.returns
-returns c = pointing_is _ _ _ c.loop-leaf.invariant.0 c.requires.2 (omega arith)
+returns c =
+    let inv = c.loop-leaf.invariant in
+    pointing_is _ _ _ inv.done c.requires inv.inside (rw inv.same at c.in-None.ensures.steps.0)
