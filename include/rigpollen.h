@@ -64,7 +64,7 @@ extern "C" {
  * interrupt on the same stack comes on top. (tools/rv32-stack prints this
  * figure, and what each entry takes.)
  */
-#define RIGPOLLEN_RV32_STACK_BYTES 5232u
+#define RIGPOLLEN_RV32_STACK_BYTES 5392u
 
 /* -------------------------------------------------------- the boot block */
 

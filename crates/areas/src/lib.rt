@@ -7,6 +7,7 @@ ghost use Rattle.rules.specs.Lent.{share_address};
 use types::Area;
 
 // Some address is in both areas: each starts before the end of the other, and neither is empty.
+#[tactic(auto, unfolding(rules::specs::Lent::share_address))]
 pub fn share_address(a: Area, c: Area) -> bool
     ensures { result ≡ share_address a c }
 {

@@ -2,7 +2,7 @@
 use Rattle.std.specs.Prelude.{◌≡◌, List, ℕ, ◌≤◌}
 use Rattle.types.specs.declared.Process.{Process}
 use Rattle.rules.specs.Block.{entry_point_of, first_section_of, sections_of, kind_word_of}
-use Rattle.rules.specs.Block.{address, size, flash_offset_of, flags, is_no_copy, writable, executable, first_page_of, last_page_of, page_count}
+use Rattle.rules.specs.Block.{address, size, flash_offset_of, flags, is_no_copy, writable, executable, section_end, first_page_of, last_page_of, page_count}
 use Rattle.rules.specs.Block.{region_start, region_pages, region_area}
 use Rattle.rules.specs.Lent.{end_of}
 use Rattle.block_records.specs.declared.Section.{Section}
@@ -28,6 +28,7 @@ pub record IsSection (b : List ℕ) (n : ℕ) (r : Section) : Type 0 where
   pub last_page : r.last_page.0 ≡ last_page_of b n
   pub page_count_is : r.pages ≡ page_count b n
   pub pages_few : r.pages ≤ 0x20_0000
+  pub end_is : r.end ≡ section_end b n
 
 -- r is region record i
 pub record IsRegion (b : List ℕ) (i : ℕ) (r : Region) : Type 0 where

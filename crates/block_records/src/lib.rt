@@ -9,11 +9,21 @@ ghost use Rattle.block_records.specs.Read.{IsProcess, IsSection, IsRegion};
 
 use types::{Process, VirtPage};
 
-// A section record, its flags by name, its virtual pages, and how many they are.
+// A section's flag: only zeros, and no bytes in flash.
+const NO_COPY: u32 = 1;
+
+// A section's flag: its pages may be written.
+const WRITABLE: u32 = 2;
+
+// A section's flag: its pages may be executed.
+const EXECUTABLE: u32 = 4;
+
+// A section record, the address after its last byte, its flags by name, its virtual pages, and how many they are.
 #[derive(Clone, Copy)]
 pub struct Section {
     pub address: u32,
     pub size: u32,
+    pub end: u64,
     pub flash_offset: u32,
     pub flags: u32,
     pub no_copy: bool,
@@ -33,17 +43,11 @@ pub struct Region {
 }
 
 // Process record i, which is that of process i + 1.
+#[tactic(auto, unfolding(rules::specs::Block::block_rules))]
 pub fn read_process_record(block: &[u8], i: u32) -> Process
     ensures { IsProcess block.now (i + 1) result }
 {
-    let at = block_header::process_at(i);
-    let [entry_point, first_section, sections, kind_word] = slices::four_words(block, at);
-    Process {
-        entry_point,
-        first_section,
-        sections,
-        kind_word,
-    }
+    Process::from(slices::four_words(block, block_header::process_at(i)))
 }
 
 // The record of process q, which is record q - 1. There is no process 0: its record would be that of process 1.
@@ -53,7 +57,7 @@ pub fn read_process(block: &[u8], q: u32) -> Process
     read_process_record(block, q.saturating_sub(1))
 }
 
-// The kind: bits 0 to 7 of a kind word.
+// The kind: bits 0 to 7 of a kind word. (A number and no enum: so `kind_of` of the rules has it, which this promises.)
 #[tactic(auto, unfolding(rules::specs::Block::kind_of))]
 pub fn kind_of(kind_word: u32) -> u32
     ensures { result ≡ kind_of kind_word }
@@ -91,6 +95,7 @@ pub fn stack_pointer(q: u32) -> u32
 }
 
 // Where the words of section record n are read. Past the end all words are 0, and 16 n might wrap.
+#[tactic(auto, using(crate::proofs::Sections::section_past), unfolding(rules::specs::Block::section_at))]
 fn section_offset(block: &[u8], n: usize) -> usize
     ensures { (k : ℕ) → word block.now (result + k) ≡ word block.now (section_at block.now n + k) }
 {
@@ -111,11 +116,12 @@ pub fn read_section(block: &[u8], n: usize) -> Section
     Section {
         address,
         size,
+        end,
         flash_offset,
         flags,
-        no_copy: numbers::bit(flags, 1),
-        writable: numbers::bit(flags, 2),
-        executable: numbers::bit(flags, 4),
+        no_copy: numbers::bit(flags, NO_COPY),
+        writable: numbers::bit(flags, WRITABLE),
+        executable: numbers::bit(flags, EXECUTABLE),
         first_page: VirtPage(first),
         last_page: VirtPage(last),
         pages: last + 1 - first,

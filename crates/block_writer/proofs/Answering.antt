@@ -1,8 +1,7 @@
 -- The writer's answer and its buffer, by the first refusal.
-use Rattle.std.proofs.Common.{◌≡◌, sym, ap, true, false, List, arith, length, get_or, ne_eqb, lt-ltb, le-ltb, ltb-false}
+use Rattle.std.proofs.Common.{◌≡◌, sym, ap, true, false, List, arith, length, get_or, ne_eqb, lt-ltb, le-ltb, ltb-false, ℕ, ◌+◌, ◌-◌, ◌*◌, ◌≤◌, ◌<◌}
 use Rattle.std.specs.Prelude.{Ok, Err}
 use Rattle.refusals.proofs.Given.{number_given}
-use Prim.Native.Nat.{ℕ, ◌+◌, ◌-◌, ◌*◌, ◌≤◌, ◌<◌}
 use Rattle.notation.specs.Choice.{choose}
 use Rattle.laws.specs.Choice.{choose_yes}
 use Rattle.laws.specs.Counts.{sum_same}

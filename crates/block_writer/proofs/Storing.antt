@@ -1,7 +1,6 @@
 -- The block stored in the buffer part by part.
-use Rattle.std.proofs.Common.{◌≡◌, refl, sym, ◌∙◌, List, [], ◌++◌, append_assoc, arith, length, get_or, take, drop, length-append, take_at, drop-drop, lt-ltb}
-use Prim.Native.Nat.{ℕ, ◌+◌, ◌-◌, ◌*◌, ◌/◌, ◌%◌, ◌≤◌}
-use lib.Seq.{drop-append-add}
+use Rattle.std.proofs.Common.{◌≡◌, refl, sym, ◌∙◌, List, [], ◌++◌, append_assoc, arith, length, get_or, take, drop, length-append, take_at, drop-drop, lt-ltb, ℕ, ◌+◌, ◌-◌, ◌*◌, ◌/◌, ◌%◌, ◌≤◌}
+use Rattle.std.proofs.Math.Seq.{drop-append-add}
 use borrow.Rule.Slice.PartMut.{put_mid, mid_of, mid_len, Post-is}
 use Rattle.notation.specs.Words.{byte_of, bytes_of}
 use Rattle.laws.specs.Choice.{choose_yes}

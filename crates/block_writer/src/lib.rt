@@ -1,13 +1,14 @@
 // The block writer: from lists of records to a boot block in a lent buffer. A refusal leaves the buffer as it came.
 #![tactic(auto)]
 
-ghost use Rattle.std.specs.Prelude.{◌++◌, ◌≡◌, ◌+◌, ◌*◌, ◌≤◌, length, take, drop};
+ghost use Rattle.std.specs.Prelude.{[], ◌∷◌, ◌++◌, ◌≡◌, ◌+◌, ◌*◌, ◌≤◌, length, take, drop};
 ghost use Rattle.notation.specs.Words.{bytes_of};
-ghost use Rattle.rules.specs.Writer.{records_in, header_words, lists_unfit, writer_verdict, written, buffer_after};
+ghost use Rattle.rules.specs.Writer.{records_in, processes_in, sections_in, regions_in, header_words, lists_unfit, writer_verdict, written, buffer_after};
 ghost use Rattle.round_trips.specs.WrittenBlock.{WordLists};
 ghost use Rattle.refusals.specs.Answers.{verdict_of, written_of};
 ghost use Rattle.block_writer.specs.Lists.{records_lent, block_length, Few, process_in, process_refusal, block_at_start};
 
+use check_processes::Position;
 use refusals::{Refusal, Refused};
 use types::Process;
 
@@ -20,19 +21,27 @@ struct Lists<'a> {
 }
 
 impl Lists<'_> {
+    // How many records they are: of processes, of sections and of regions.
+    fn counts(self) -> [usize; 3]
+        ensures { result ≡ processes_in (records_lent self.entry) ∷ sections_in (records_lent self.entry) ∷ regions_in (records_lent self.entry) ∷ [] }
+    {
+        [
+            self.processes.len() / 4,
+            self.sections.len() / 4,
+            self.regions.len() / 2,
+        ]
+    }
+
     // Refusal 21.
     #[tactic(auto, unfolding(rules::specs::Writer::lists_unfit, notation::specs::Choice::any))]
     fn unfit(self) -> bool
         ensures { result ≡ lists_unfit (records_lent self.entry) }
     {
+        let [p, s, r] = self.counts();
         self.processes.len() % 4 != 0
             || self.sections.len() % 4 != 0
             || self.regions.len() % 2 != 0
-            || check_header::counts_outside(
-                self.processes.len() / 4,
-                self.sections.len() / 4,
-                self.regions.len() / 2,
-            )
+            || check_header::counts_outside(p, s, r)
     }
 
     // The length of their block.
@@ -51,30 +60,31 @@ fn process_in(processes: &[u32], i: u32) -> Process
     ensures { result ≡ process_in processes.now i }
 {
     let at = 4 * i as usize;
-    Process {
-        entry_point: processes[at],
-        first_section: processes[at + 1],
-        sections: processes[at + 2],
-        kind_word: processes[at + 3],
-    }
+    Process::from([
+        processes[at],
+        processes[at + 1],
+        processes[at + 2],
+        processes[at + 3],
+    ])
 }
 
-// Refusal 6: the first process record that draws it, where there are s sections.
-fn check_process_records(processes: &[u32], s: u32) -> Result<(), Refused>
-    requires { length processes.now ≤ 64 }
-    ensures { verdict_of result ≡ process_refusal processes.now s }
+// Refusal 6: the first process record that draws it.
+fn check_process_records(lists: Lists<'_>) -> Result<(), Refused>
+    requires { Few (records_lent lists) }
+    ensures { verdict_of result ≡ process_refusal lists.entry.processes.now (sections_in (records_lent lists.entry)) }
 {
-    let p = (processes.len() / 4) as u32;
+    let [p, s, _] = lists.counts();
+    let p = p as u32;
     let mut before: u64 = 0;
     for i in 0..p {
-        let process = process_in(processes, i);
-        let record = check_processes::check_record(process, i, p, before, s);
-        if let Some(refusal) = record.refusal {
-            return Err(Refused {
-                refusal,
-                place: i,
-                offset: record.offset as u32,
-            });
+        let process = process_in(lists.processes, i);
+        let position = Position {
+            index: i,
+            processes: p,
+            sections: s as u32,
+        };
+        if let Some(refused) = check_processes::check_record(process, position, before).at(i) {
+            return Err(refused);
         }
         before += u64::from(process.sections);
     }
@@ -92,7 +102,7 @@ fn check(lists: Lists<'_>, room: usize) -> Result<(), Refused>
     if room < lists.block_length() {
         return Err(Refused::whole(Refusal::BufferTooShort));
     }
-    check_process_records(lists.processes, (lists.sections.len() / 4) as u32)
+    check_process_records(lists)
 }
 
 // The header of a block with p, s and r records.
@@ -126,12 +136,8 @@ fn store_block(lists: Lists<'_>, buffer: &mut [u8]) -> u32
 {
     let sections_at = 32 + 4 * lists.processes.len();
     let regions_at = sections_at + 4 * lists.sections.len();
-    let words = header(
-        (lists.processes.len() / 4) as u32,
-        (lists.sections.len() / 4) as u32,
-        (lists.regions.len() / 2) as u32,
-    );
-    put_words(buffer, 0, &words);
+    let [p, s, r] = lists.counts();
+    put_words(buffer, 0, &header(p as u32, s as u32, r as u32));
     put_words(buffer, 32, lists.processes);
     put_words(buffer, sections_at, lists.sections);
     put_words(buffer, regions_at, lists.regions);

@@ -9,17 +9,21 @@ ghost use Rattle.refusals.specs.Answers.{number_or_0, check_of};
 use refusals::{RecordRefusal, Refusal};
 use types::Process;
 
+// Where a process record stands: its index, counted from 0, how many process records there are, and how many section records.
+#[derive(Clone, Copy, PartialEq, Eq, Debug)]
+pub struct Position {
+    pub index: u32,
+    pub processes: u32,
+    pub sections: u32,
+}
+
 // The sections of the first n process records.
-#[tactic(auto, using(accepted::specs::Sections::sections_before_none, accepted::specs::Sections::sections_before_next))]
 fn sections_before(block: &[u8], n: u32) -> u64
     ensures { (result ≡ sections_before block.now n) × (result ≤ 4294967295 * n) }
 {
-    let mut sum: u64 = 0;
-    for i in 0..n {
-        let process = block_records::read_process_record(block, i);
-        sum += u64::from(process.sections);
-    }
-    sum
+    (0..n)
+        .map(|i| u64::from(block_records::read_process_record(block, i).sections))
+        .sum()
 }
 
 // Refusal 6, for the kind word of process record i. Record 0 is the kernel's.
@@ -34,22 +38,24 @@ fn kind_unfit(kind_word: u32, i: u32) -> bool
         || (i == 0 && block_records::stack_bits(kind_word) != 0)
 }
 
-// With the sections of process record i of p the sum is this: it passes s, or the record is the last and it is not s.
-fn sum_unfit(sum: u64, i: u32, p: u32, s: u32) -> bool
-    ensures { result ≡ (ltb s sum || (eqb (i + 1) p && not (eqb sum s))) }
+// With the sections of the process record at this position the sum is this: it passes the section count, or the record is the last and it
+// is not the section count.
+fn sum_unfit(sum: u64, at: Position) -> bool
+    ensures { result ≡ (ltb at.sections sum || (eqb (at.index + 1) at.processes && not (eqb sum at.sections))) }
 {
-    u64::from(s) < sum || (u64::from(i) + 1 == u64::from(p) && sum != u64::from(s))
+    let sections = u64::from(at.sections);
+    sections < sum || (u64::from(at.index) + 1 == u64::from(at.processes) && sum != sections)
 }
 
-// Refusal 6, for a process record, number i of p: `before` is the sum of the section counts before it. Where the sum is made, it is a number
-// of 32 bits.
-fn record_unfit(process: Process, i: u32, p: u32, before: u64, s: u32) -> bool
-    ensures { result ≡ record_unfit process i p before s }
+// Refusal 6, for a process record at this position: `before` is the sum of the section counts before it. Where the sum is made, it is a
+// number of 32 bits.
+fn record_unfit(process: Process, at: Position, before: u64) -> bool
+    ensures { result ≡ record_unfit process at.index at.processes before at.sections }
 {
-    kind_unfit(process.kind_word, i)
+    kind_unfit(process.kind_word, at.index)
         || process.sections == 0
         || u64::from(process.first_section) != before
-        || sum_unfit(before + u64::from(process.sections), i, p, s)
+        || sum_unfit(before + u64::from(process.sections), at)
 }
 
 // What is drawn at process record i, with where that record is.
@@ -62,27 +68,25 @@ fn at_process(refusal: Option<Refusal>, i: u32) -> RecordRefusal
     }
 }
 
-// The check for 6 of such a record.
-pub fn check_record(process: Process, i: u32, p: u32, before: u64, s: u32) -> RecordRefusal
-    ensures { check_of result ≡ process_record_check process i p before s }
+// The check for 6 of a process record at this position, where `before` is the sum of the section counts before it.
+pub fn check_record(process: Process, at: Position, before: u64) -> RecordRefusal
+    ensures { check_of result ≡ process_record_check process at.index at.processes before at.sections }
 {
-    let unfit = record_unfit(process, i, p, before, s);
-    at_process(unfit.then_some(Refusal::ProcessUnfit), i)
+    let unfit = record_unfit(process, at, before);
+    at_process(unfit.then_some(Refusal::ProcessUnfit), at.index)
 }
 
 // The check for 6 of process record i of a block.
 pub fn check_process(block: &[u8], i: u32) -> RecordRefusal
     ensures { check_of result ≡ process_check block.now i }
 {
+    let position = Position {
+        index: i,
+        processes: block_header::process_count(block),
+        sections: block_header::section_count(block),
+    };
     let process = block_records::read_process_record(block, i);
-    let before = sections_before(block, i);
-    check_record(
-        process,
-        i,
-        block_header::process_count(block),
-        before,
-        block_header::section_count(block),
-    )
+    check_record(process, position, sections_before(block, i))
 }
 
 // Section record n is executable and has this address.
@@ -90,8 +94,7 @@ fn can_enter(block: &[u8], n: usize, at: u32) -> bool
     ensures { result ≡ (executable block.now n && (leb (address block.now n) at && ltb at (section_end block.now n))) }
 {
     let section = block_records::read_section(block, n);
-    let end = u64::from(section.address) + u64::from(section.size);
-    section.executable && section.address <= at && u64::from(at) < end
+    section.executable && section.address <= at && u64::from(at) < section.end
 }
 
 // Refusal 10, for process record i.
@@ -99,8 +102,7 @@ fn entry_point_outside(block: &[u8], i: u32) -> bool
     ensures { result ≡ entry_point_outside block.now i }
 {
     let process = block_records::read_process_record(block, i);
-    let first = process.first_section as usize;
-    !(0..process.sections).any(|j| can_enter(block, first + j as usize, process.entry_point))
+    !(0..process.sections).any(|j| can_enter(block, process.section(j), process.entry_point))
 }
 
 // The check for 10 of process record i.

@@ -7,6 +7,7 @@ ghost use Rattle.rules.specs.Block.{region_area};
 ghost use Rattle.rules.specs.Refusals.{region_unfit, region_check};
 ghost use Rattle.refusals.specs.Answers.{check_of};
 
+use lent::Placed;
 use refusals::{RecordRefusal, Refusal};
 use types::Area;
 
@@ -18,10 +19,10 @@ fn below_previous(block: &[u8], at: u32, i: u32) -> bool
 }
 
 // Refusal 11, for region record i.
-fn region_unfit(block: &[u8], flash: Area, ram: Area, i: u32) -> bool
-    ensures { result ≡ region_unfit block.now flash ram i }
+fn region_unfit(placed: Placed<'_>, i: u32) -> bool
+    ensures { result ≡ region_unfit placed.entry.block.now placed.entry.flash placed.entry.ram i }
 {
-    let region = block_records::read_region(block, i);
+    let region = block_records::read_region(placed.block, i);
     let area = Area {
         start: region.start,
         length: 4096 * (region.pages as usize),
@@ -29,18 +30,18 @@ fn region_unfit(block: &[u8], flash: Area, ram: Area, i: u32) -> bool
     region.start % 4096 != 0
         || region.pages == 0
         || 0x1_0000_0000 < region.end
-        || below_previous(block, region.start, i)
-        || areas::share_address(ram, area)
-        || areas::share_address(flash, area)
-        || 4096 < order_tracker::io_pages_of(block, i) + u64::from(region.pages)
+        || below_previous(placed.block, region.start, i)
+        || areas::share_address(placed.ram, area)
+        || areas::share_address(placed.flash, area)
+        || 4096 < order_tracker::io_pages_of(placed.block, i) + u64::from(region.pages)
 }
 
 // The check for 11 of region record i.
-pub fn check_region(block: &[u8], flash: Area, ram: Area, i: u32) -> RecordRefusal
-    ensures { check_of result ≡ region_check block.now flash ram i }
+pub fn check_region(placed: Placed<'_>, i: u32) -> RecordRefusal
+    ensures { check_of result ≡ region_check placed.entry.block.now placed.entry.flash placed.entry.ram i }
 {
     RecordRefusal {
-        refusal: region_unfit(block, flash, ram, i).then_some(Refusal::RegionUnfit),
-        offset: block_header::region_at(block, i),
+        refusal: region_unfit(placed, i).then_some(Refusal::RegionUnfit),
+        offset: block_header::region_at(placed.block, i),
     }
 }

@@ -53,9 +53,8 @@ fn section_misplaced(block: &[u8], n: u32) -> bool
 {
     let owner = section_owners::owner_of(block, n as usize);
     let section = block_records::read_section(block, n as usize);
-    let end = u64::from(section.address) + u64::from(section.size);
     section.address < range_first(owner)
-        || u64::from(range_last(block, owner)) + 1 < end
+        || u64::from(range_last(block, owner)) + 1 < section.end
         || starts_low(block, n, owner)
 }
 

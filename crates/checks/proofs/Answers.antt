@@ -1,6 +1,6 @@
 -- Laws of the answer.
 use Rattle.std.proofs.Common.{◌≡◌, refl, sym, ap, ◌∙◌, ◌≢◌, Bool, true, false, List, arith, length, eqb, ltb, eq-eqb, ne_eqb, eqb-true, ℕ, ◌-◌, Ok, Err}
-use borrow.Author.Tests.{eqb-false}
+use Rattle.std.proofs.lemmas.Bool.{eqb-false}
 use Rattle.notation.specs.Choice.{choose}
 use Rattle.laws.specs.Choice.{by_test, by_choose, choose_yes, choose_no}
 use Rattle.types.specs.declared.Area.{Area}

@@ -19,9 +19,10 @@ use check_header::{
 use check_processes::{check_entry_point, check_process};
 use check_regions::check_region;
 use check_sections::check_section;
-use lent::Image;
+use lent::{Image, Placed};
 use refusals::{Boot, RecordRefusal, Refusal, Refused};
 use types::Area;
+use xip_sections::MarkedBlock;
 
 // A refusal that is of no record, where it is given.
 fn refuse_if(given: bool, refusal: Refusal) -> Result<(), Refused>
@@ -41,13 +42,8 @@ fn refuse_records<F: Fn(u32) -> RecordRefusal>(n: u32, check: F) -> Result<(), R
     ensures { (f : ℕ → RecordCheck) → ((i : ℕ) (r : _) → i < n → F.post check i r → check_of r ≡ f i) → verdict_of result ≡ first_record f 0 n accepted }
 {
     for i in 0..n {
-        let record = check(i);
-        if let Some(refusal) = record.refusal {
-            return Err(Refused {
-                refusal,
-                place: i,
-                offset: record.offset as u32,
-            });
+        if let Some(refused) = check(i).at(i) {
+            return Err(refused);
         }
     }
     Ok(())
@@ -72,40 +68,41 @@ fn check_layout(block: &[u8]) -> Result<(), Refused>
 }
 
 // Refusals 6 to 11, in order.
-fn check_records(block: &[u8], flash: Area, ram: Area) -> Result<(), Refused>
-    requires { Counted block.now }
-    ensures { verdict_of result ≡ first_refusal (record_checks block.now flash ram) }
+fn check_records(placed: Placed<'_>) -> Result<(), Refused>
+    requires { Counted placed.block.now }
+    ensures { verdict_of result ≡ first_refusal (record_checks placed.entry.block.now placed.entry.flash placed.entry.ram) }
 {
+    let block = placed.block;
     let processes = block_header::process_count(block);
     let sections = block_header::section_count(block);
     let regions = block_header::region_count(block);
     refuse_records(processes, |i| check_process(block, i))?;
-    refuse_records(sections, |n| check_section(block, flash.length, n))?;
+    refuse_records(sections, |n| check_section(block, placed.flash.length, n))?;
     refuse_records(processes, |i| check_entry_point(block, i))?;
-    refuse_records(regions, |i| check_region(block, flash, ram, i))
+    refuse_records(regions, |i| check_region(placed, i))
 }
 
 // All refusals but 12, in order.
-fn check_before_12(block: &[u8], flash: Area, ram: Area) -> Result<(), Refused>
-    ensures { verdict_of result ≡ first_refusal (checks_before12 block.now flash ram) }
+fn check_before_12(placed: Placed<'_>) -> Result<(), Refused>
+    ensures { verdict_of result ≡ first_refusal (checks_before12 placed.entry.block.now placed.entry.flash placed.entry.ram) }
 {
-    check_lent(flash, ram)?;
-    check_layout(block)?;
-    check_records(block, flash, ram)
+    check_lent(placed.flash, placed.ram)?;
+    check_layout(placed.block)?;
+    check_records(placed)
 }
 
 // The answer where all but 12 are not given, for RAM of `pages` pages: refusal 12, or a boot. The pages needed are the place after all
 // tables.
-fn room_answer(block: &[u8], xip: &[u8], pages: u32) -> Result<Boot, Refused>
-    requires { (pages ≤ 4096) × (process_count block.now ≤ 16) }
-    ensures { answer_of result ≡ room_answer block.now (marked xip.now) pages }
+fn room_answer(block: &MarkedBlock, pages: u32) -> Result<Boot, Refused>
+    requires { (pages ≤ 4096) × (process_count block.now.bytes.now ≤ 16) }
+    ensures { answer_of result ≡ room_answer block.now.bytes.now (marked block.now.xip.now) pages }
 {
-    let after_all = block_header::process_count(block) + 1;
-    let needed = order_places::root_place(block, xip, pages, after_all);
+    let after_all = block_header::process_count(block.bytes) + 1;
+    let needed = order_places::root_place(block, pages, after_all);
     if pages < needed {
         return Err(Refused::whole(Refusal::RamTooSmall));
     }
-    let tracker = order_tracker::tracker_pages(block, pages) as u32;
+    let tracker = order_tracker::tracker_pages(block.bytes, pages) as u32;
     Ok(Boot {
         taken: needed,
         free: pages - needed,
@@ -114,21 +111,28 @@ fn room_answer(block: &[u8], xip: &[u8], pages: u32) -> Result<Boot, Refused>
 }
 
 // The answer to a load of `image` into RAM that lies so. Where none but 12 is given, `xip` gets the marks of the sections that are used in
-// place: they are what the pages are counted by, so that it must have room for all 64.
+// place, as many as it has room for, and the pages are counted by them: a section past the marks counts as one that takes RAM. A block
+// that passes has 64 sections at most, so that with room for 64 marks the answer is `answer_on`.
 pub fn mark_and_answer(image: Image<'_>, ram: Area, xip: &mut [u8]) -> Result<Boot, Refused>
     ensures answer { answer_of result ≡ marked_answer (image_of image.entry) ram (length xip.old) }
     ensures marks { xip.new ≡ marks_after (image_of image.entry) ram xip.old }
 {
-    let flash = Area {
-        start: image.flash.start,
-        length: image.flash.bytes.len(),
+    let placed = Placed {
+        block: image.block,
+        flash: Area::from(image.flash),
+        ram,
     };
-    check_before_12(image.block, flash, ram)?;
+    check_before_12(placed)?;
     xip_sections::mark_sections(image.block, image.flash.bytes, xip);
-    room_answer(image.block, xip, (ram.length / 4096) as u32)
+    let block = MarkedBlock {
+        bytes: image.block,
+        xip,
+    };
+    room_answer(&block, (ram.length / 4096) as u32)
 }
 
-// The same answer.
+// The same answer, with marks of its own. (The image and RAM's area are two parameters here as in the rules' `answer_on` and `verdict`.)
+#[tactic(auto, using(crate::proofs::Answers::marked_answer_is))]
 pub fn answer_on(image: Image<'_>, ram: Area) -> Result<Boot, Refused>
     ensures { answer_of result ≡ answer_on (image_of image.entry) ram }
 {
@@ -137,6 +141,7 @@ pub fn answer_on(image: Image<'_>, ram: Area) -> Result<Boot, Refused>
 }
 
 // 01's verdict on `image` and RAM that lies so.
+#[tactic(auto, using(crate::proofs::Answers::told_err, crate::proofs::Answers::told_ok))]
 pub fn check(image: Image<'_>, ram: Area) -> Result<(), Refused>
     ensures { verdict_of result ≡ verdict (image_of image.entry) ram }
 {

@@ -4,11 +4,10 @@
 // are on its flash page, and C, since the image ends in its flash page.
 #![tactic(auto)]
 
-use lent::{Image, Memory};
+use lent::Image;
 use loaded_board::Board;
-use refusals::Boot;
 use std::io;
-use types::{Area, PhysPage};
+use types::PhysPage;
 
 const START: u32 = 0x4000_0000;
 
@@ -41,7 +40,7 @@ fn block() -> [u8; 160] {
 }
 
 // The image, with the first word of each section.
-fn image() -> [u8; FLASH] {
+fn flash() -> [u8; FLASH] {
     let mut flash = buffers::zeros::<FLASH>();
     word_stores::put_word(&mut flash, 0, 0x1111_1111);
     word_stores::put_word(&mut flash, 0x140, 0xBBBB_BBBB);
@@ -58,101 +57,86 @@ struct Roots {
     third: PhysPage,
 }
 
-// The root table of process q; 0 where there is none.
-fn root_of(image: Image<'_>, q: u32) -> PhysPage {
-    let ram = Area {
-        start: START,
-        length: RAM,
-    };
-    order_roots::find_root(image, ram, q).unwrap_or(PhysPage(0))
+fn root_tables(board: &Board<'_>) -> Option<Roots> {
+    Some(Roots {
+        kernel: board.root(1)?,
+        second: board.root(2)?,
+        third: board.root(3)?,
+    })
 }
 
-fn sections(board: &Board<'_>, roots: Roots) -> [(PhysPage, &'static str); 8] {
-    let Roots {
-        kernel,
-        second,
-        third,
-    } = roots;
-    [
-        (board.page_at(second, 0x0001_0020), "section A of process 2"),
-        (board.page_at(second, 0x0002_0140), "section B of process 2"),
-        (board.page_at(second, 0x0003_0000), "section C of process 2"),
-        (board.page_at(third, 0x0005_0020), "section D of process 3"),
-        (board.page_at(kernel, 0xFFC0_0000), "kernel section"),
-        (board.page_at(kernel, 0xFFF4_0000), "tracker"),
-        (board.page_at(kernel, 0xFFF8_0000), "process list"),
-        (board.page_at(kernel, 0xFFF0_0000), "block copy"),
-    ]
+// The pages of sections, and the kernel's other pages, by the root table that leads to each and their address there.
+fn print_pages(board: &Board<'_>, roots: Roots) -> io::Result<()> {
+    for (root, address, name) in [
+        (roots.second, 0x0001_0020, "section A of process 2"),
+        (roots.second, 0x0002_0140, "section B of process 2"),
+        (roots.second, 0x0003_0000, "section C of process 2"),
+        (roots.third, 0x0005_0020, "section D of process 3"),
+        (roots.kernel, 0xFFC0_0000, "kernel section"),
+        (roots.kernel, 0xFFF4_0000, "tracker"),
+        (roots.kernel, 0xFFF8_0000, "process list"),
+        (roots.kernel, 0xFFF0_0000, "block copy"),
+    ] {
+        board.print_use(board.page_at(root, address), name)?;
+    }
+    Ok(())
 }
 
-fn tables(board: &Board<'_>, roots: Roots) -> [(PhysPage, &'static str); 8] {
-    let Roots {
-        kernel,
-        second,
-        third,
-    } = roots;
-    [
-        (kernel, "kernel root table"),
-        (board.leaf_at(kernel, 1023), "kernel leaf table"),
-        (second, "root table of process 2"),
-        (board.leaf_at(second, 0), "its leaf table for slot 0"),
-        (board.leaf_at(second, 511), "its leaf table for slot 511"),
-        (third, "root table of process 3"),
-        (board.leaf_at(third, 0), "its leaf table for slot 0"),
-        (board.leaf_at(third, 511), "its leaf table for slot 511"),
-    ]
+fn print_tables(board: &Board<'_>, roots: Roots) -> io::Result<()> {
+    for (table, name) in [
+        (Some(roots.kernel), "kernel root table"),
+        (board.leaf_at(roots.kernel, 1023), "kernel leaf table"),
+        (Some(roots.second), "root table of process 2"),
+        (board.leaf_at(roots.second, 0), "its leaf table for slot 0"),
+        (
+            board.leaf_at(roots.second, 511),
+            "its leaf table for slot 511",
+        ),
+        (Some(roots.third), "root table of process 3"),
+        (board.leaf_at(roots.third, 0), "its leaf table for slot 0"),
+        (
+            board.leaf_at(roots.third, 511),
+            "its leaf table for slot 511",
+        ),
+    ] {
+        board.print_use(table, name)?;
+    }
+    Ok(())
 }
 
 // `0x00010020: entry 0x0800045b, word 0xaaaaaaaa`: an address in slot 0, the entry of its page, and the word that is seen there.
 fn print_seen(board: &Board<'_>, root: PhysPage, address: u32) -> io::Result<()> {
-    let entry = board.entry(board.leaf_at(root, 0), address / 4096);
+    let leaf = board
+        .leaf_at(root, 0)
+        .ok_or_else(|| io::Error::other("no leaf table"))?;
+    let entry = board.entry(leaf, address / 4096);
     let word = slices::word(board.bytes_at(root, address), address as usize % 4096);
     println!(board.rt; "{address:#010x}: entry {entry:#010x}, word {word:#010x}")
 }
 
-fn print_board(board: &Board<'_>, roots: Roots) -> io::Result<()> {
-    for (page, name) in sections(board, roots) {
-        board.print_use(page, name)?;
+fn print_words(board: &Board<'_>, roots: Roots) -> io::Result<()> {
+    for (root, address) in [
+        (roots.second, 0x0001_0020),
+        (roots.second, 0x0002_0140),
+        (roots.second, 0x0003_0000),
+        (roots.third, 0x0005_0020),
+    ] {
+        print_seen(board, root, address)?;
     }
-    for (page, name) in tables(board, roots) {
-        board.print_use(page, name)?;
-    }
-    for address in [0x0001_0020, 0x0002_0140, 0x0003_0000] {
-        print_seen(board, roots.second, address)?;
-    }
-    print_seen(board, roots.third, 0x0005_0020)
+    Ok(())
 }
 
 fn main(rt: HostRuntime) -> io::Result<()> {
     let block = block();
-    let flash = image();
-    let image = Image {
-        block: &block,
-        flash: Memory {
-            start: FLASH_START,
-            bytes: &flash,
-        },
-    };
+    let flash = flash();
+    let image = Image::new(&block, &flash, FLASH_START);
     let mut ram = buffers::zeros::<RAM>();
-    let none = Boot {
-        taken: 0,
-        free: 0,
-        tracker: 0,
-    };
-    let boot = loader::load(image, &mut ram, START).unwrap_or(none);
+    let loaded = Board::load(image, &mut ram, START, &rt);
+    let board = loaded.map_err(|_| io::Error::other("the board is refused"))?;
+    let boot = board.boot;
     println!(rt; "{} pages taken, {} free", boot.taken, boot.free)?;
-    let roots = Roots {
-        kernel: root_of(image, 1),
-        second: root_of(image, 2),
-        third: root_of(image, 3),
-    };
-    let board = Board {
-        ram: Memory {
-            start: START,
-            bytes: &ram,
-        },
-        flash: image.flash,
-        rt: &rt,
-    };
-    print_board(&board, roots)
+    let roots = root_tables(&board).ok_or_else(|| io::Error::other("no root table"))?;
+    print_pages(&board, roots)?;
+    print_tables(&board, roots)?;
+    print_words(&board, roots)
 }

@@ -1,4 +1,5 @@
-// The count of leaf tables for C: bench/leaf-tables links it, and nothing else does.
+// The count of leaf tables for C: bench/leaf-tables links it, and nothing else does. It stands here and in `leaf_table_count`, since a crate
+// is a library or a static library (D158).
 #![tactic(auto)]
 
 ghost use Rattle.std.specs.Prelude.{◌≡◌, length, ltb};

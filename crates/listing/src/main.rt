@@ -4,11 +4,12 @@
 // standard error, and nothing else is printed.
 #![tactic(auto)]
 
-ghost use Rattle.std.specs.Prelude.{◌≤◌, length, IfOk};
+ghost use Rattle.std.specs.Prelude.{◌≤◌};
+ghost use Rattle.listing.specs.declared.TheConstants.{PAGES};
 
 use command_line::{Complained, Program};
-use lent::{Image, Memory};
-use std::env::Env;
+use lent::Image;
+use program_files::Contents;
 
 // RAM's pages at most.
 const PAGES: u32 = 16;
@@ -19,10 +20,9 @@ const RAM: usize = 65536;
 // A flash file's bytes at most.
 const FLASH: usize = 262144;
 
-// Where flash starts if no argument says so.
-const FLASH_START: u32 = 0x2000_0000;
-
 const USAGE: &str = "listing BLOCK FLASH START PAGES [FLASH_START]";
+
+const NOT_NUMBER: &str = "not a number below 2^32, decimal or hexadecimal after 0x";
 
 const HELP: &str = "listing BLOCK FLASH START PAGES [FLASH_START]\n\
     Loads a boot block and a flash image into RAM, and prints the boot, or the refusal's number, place and byte in the block.\n\
@@ -34,27 +34,22 @@ const HELP: &str = "listing BLOCK FLASH START PAGES [FLASH_START]\n\
     START, PAGES and FLASH_START are decimal, or hexadecimal after 0x.\n\
     Without arguments it loads 01's small board. With -h or --help alone it prints this.\n";
 
-// Where RAM and flash start, and RAM's pages, 16 at most.
+// Where RAM and flash start, and how many pages RAM has.
 #[derive(Clone, Copy)]
 struct Board {
     start: u32,
     pages: u32,
     flash_start: u32,
+    ghost in_ram: { pages ≤ PAGES },
 }
 
 // Loads, and prints the listing.
 fn list(program: Program<'_>, block: &[u8], flash: &[u8], board: Board) {
     let mut ram = buffers::zeros::<RAM>();
-    let end = (4096 * board.pages as usize).min(RAM);
+    let end = 4096 * board.pages as usize;
     // 16 processes have less text than that.
     let mut text = [0u8; 1024];
-    let image = Image {
-        block,
-        flash: Memory {
-            start: board.flash_start,
-            bytes: flash,
-        },
-    };
+    let image = Image::new(block, flash, board.flash_start);
     let n = report::load_listing(image, &mut ram[..end], board.start, &mut text);
     program.print(&text[..n]);
 }
@@ -63,7 +58,7 @@ fn list_small_board(program: Program<'_>) {
     let board = Board {
         start: small_block::START,
         pages: PAGES,
-        flash_start: FLASH_START,
+        flash_start: small_block::FLASH_START,
     };
     let flash = [0u8; small_block::FLASH];
     list(program, &small_block::block(), &flash, board);
@@ -71,16 +66,10 @@ fn list_small_board(program: Program<'_>) {
 
 // The number that argument i spells.
 fn number_argument(program: Program<'_>, i: usize, what: &str) -> Result<u32, Complained> {
-    let mut text = [0u8; 4096];
-    if let Ok(n) = program.rt.arg(i, &mut text)
-        && let Ok(number) = numerals::read_number(&text[..n])
-    {
-        return Ok(number);
-    }
-    Err(program.complain(
-        what,
-        "not a number below 2^32, decimal or hexadecimal after 0x",
-    ))
+    program
+        .argument(i, &mut [0u8; 4096])
+        .and_then(|text| numerals::read_number(text).ok())
+        .ok_or_else(|| program.complain(what, NOT_NUMBER))
 }
 
 // Arguments 3 to 5, of which the last may be left out.
@@ -93,7 +82,7 @@ fn board_arguments(program: Program<'_>, count: usize) -> Result<Board, Complain
     let flash_start = if count > 5 {
         number_argument(program, 5, "FLASH_START")?
     } else {
-        FLASH_START
+        small_block::FLASH_START
     };
     Ok(Board {
         start,
@@ -102,41 +91,32 @@ fn board_arguments(program: Program<'_>, count: usize) -> Result<Board, Complain
     })
 }
 
-// The length of the block file that argument 1 names, which is put at the start of the buffer. A block that is accepted has at most 1,568
-// bytes. So of a longer file no more than the buffer holds can matter: it is refused by its length or before.
-fn block_argument(program: Program<'_>, block: &mut [u8]) -> Result<usize, Complained>
-    ensures { IfOk result (λ n. n ≤ length block.new) }
-{
-    let most = block.len();
+// The block file that argument 1 names, put at the start of the buffer. A block that is accepted has at most 1,568 bytes. So of a longer
+// file no more than the buffer holds can matter: it is refused by its length or before.
+fn block_argument<'b>(program: Program<'_>, block: &'b mut [u8]) -> Result<&'b [u8], Complained> {
     let mut text = [0u8; 4096];
     let name = program.name_argument(1, &mut text, "BLOCK")?;
     match program_files::read_file(program.rt, name, block) {
-        Ok(n) => Ok(n.unwrap_or(most)),
+        Ok(Contents::Whole(bytes) | Contents::Start(bytes)) => Ok(bytes),
         Err(error) => Err(program.fail_on(name, error)),
     }
 }
 
-// The length of the flash file that argument 2 names, which is put at the start of the buffer.
-fn flash_argument(program: Program<'_>, flash: &mut [u8]) -> Result<usize, Complained>
-    ensures { IfOk result (λ n. n ≤ length flash.new) }
-{
+// The flash file that argument 2 names, put at the start of the buffer.
+fn flash_argument<'b>(program: Program<'_>, flash: &'b mut [u8]) -> Result<&'b [u8], Complained> {
     let mut text = [0u8; 4096];
     let name = program.name_argument(2, &mut text, "FLASH")?;
-    match program_files::read_file(program.rt, name, flash) {
-        Ok(Some(n)) => Ok(n),
-        Ok(None) => Err(program.complain(name, "over 262,144 bytes")),
-        Err(error) => Err(program.fail_on(name, error)),
-    }
+    program_files::whole_file(program, name, flash, "over 262,144 bytes")
 }
 
 // Of `count` arguments, the program's own name among them.
 fn list_arguments(program: Program<'_>, count: usize) -> Result<(), Complained> {
     let mut block = [0u8; 4096];
     let mut flash = buffers::zeros::<FLASH>();
-    let b = block_argument(program, &mut block)?;
-    let f = flash_argument(program, &mut flash)?;
+    let block = block_argument(program, &mut block)?;
+    let flash = flash_argument(program, &mut flash)?;
     let board = board_arguments(program, count)?;
-    list(program, &block[..b], &flash[..f], board);
+    list(program, block, flash, board);
     Ok(())
 }
 

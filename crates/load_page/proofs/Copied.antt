@@ -1,9 +1,9 @@
 -- A page that has a copy, and is zero around it.
+use Rattle.std.proofs.lemmas.Bool.{lt-leb}
+use Rattle.std.proofs.Math.ListN.{get_or-eq_default}
+use Rattle.std.proofs.Math.Decide.{dec_lt}
+use Rattle.std.proofs.Math.Nat.{sub-zero}
 use Rattle.std.proofs.Common.{◌≡◌, sym, ◌∙◌, true, false, ◌&&◌, List, ℕ, suc, ◌+◌, ◌-◌, ◌*◌, ◌%◌, arith, leb, ltb, length, get_or, take, drop, length-take, get_or-take, get_or-drop, lt-ltb, le-ltb, le-leb}
-use native.Mathlib.Nat.{sub-zero}
-use native.Mathlib.Decide.{dec_lt}
-use lib.ListN.{get_or-eq_default}
-use borrow.Author.Tests.{lt-leb}
 use Rattle.notation.specs.Choice.{choose}
 use Rattle.notation.specs.Lists.{tab}
 use Rattle.laws.specs.Choice.{choose_yes, choose_no}

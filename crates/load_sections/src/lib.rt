@@ -1,5 +1,5 @@
-// The pages of all sections, loaded into RAM from the top down. RAM may be any bytes: a page that it has not is left out. `xip` marks the
-// sections that are used in place: they take no page.
+// The pages of all sections, loaded into RAM from the top down. RAM may be any bytes: a page that it has not is left out. Sections that the
+// block's marks say are used in place take no page.
 #![tactic(auto)]
 
 ghost use Rattle.std.specs.Prelude.{◌≡◌, ◌+◌, ◌*◌, ◌≤◌, length};
@@ -14,6 +14,14 @@ ghost use Rattle.load_sections.specs.Pages.{WrotePages};
 use block_records::Section;
 use page_allocator::{PageAllocator, fill_page};
 use types::RamPage;
+use xip_sections::MarkedBlock;
+
+// What sections are loaded from: the block, and flash.
+#[derive(Clone, Copy)]
+pub struct Source<'a> {
+    pub block: MarkedBlock<'a>,
+    pub flash: &'a [u8],
+}
 
 // Page i of a section into RAM page k.
 fn load_page(ram: &mut [u8], k: RamPage, section: Section, flash: &[u8], i: u32)
@@ -26,7 +34,7 @@ fn load_page(ram: &mut [u8], k: RamPage, section: Section, flash: &[u8], i: u32)
     );
 }
 
-// The first `count` pages of a section.
+// The first `count` pages of a section. (The allocator goes by value, as 01 names it, so that a loop that takes pages threads it.)
 fn load_pages(
     ram: &mut [u8],
     section: Section,
@@ -45,7 +53,7 @@ fn load_pages(
     next
 }
 
-// Clears RAM page k.
+// Clears RAM page k, which is cut here and not by `fill_page`: cut where RAM ends, the pages would not make one memset (`clear_pages`).
 fn clear_page(ram: &mut [u8], k: RamPage)
     requires { 4096 * k.0 + 4096 ≤ length ram.old }
     ensures { ram.new ≡ put ram.old k.0 (λ o. 0) }
@@ -56,7 +64,8 @@ fn clear_page(ram: &mut [u8], k: RamPage)
 }
 
 // Clears `count` pages that RAM has. A while on the pages left: nothing but the page's number changes from turn to turn, and none runs out, so
-// that a compiler makes all of it one memset.
+// that a compiler makes all of it one memset. By `for _ in 0..count` a load of the large board takes a tenth more instructions
+// (docs/DESIGN-PASS.md).
 fn clear_pages(ram: &mut [u8], count: u32, from: PageAllocator) -> PageAllocator
     requires { (count ≤ from.left) × (4096 * from.left ≤ length ram.old) }
     ensures { WrotePages (λ i o. 0) count ram.old from.left ram.new result.left }
@@ -74,62 +83,49 @@ fn clear_pages(ram: &mut [u8], count: u32, from: PageAllocator) -> PageAllocator
 // Section j, counted from 0, of process q: no page of it where it is used in place.
 fn load_section(
     ram: &mut [u8],
-    block: &[u8],
-    flash: &[u8],
-    xip: &[u8],
+    source: &Source,
     q: u32,
     j: u32,
     from: PageAllocator,
 ) -> PageAllocator
-    ensures { Wrote (section_content block.now flash.now) (section_pages block.now (marked xip.now) q j)
+    ensures { Wrote (section_content source.now.block.bytes.now source.now.flash.now)
+        (section_pages source.now.block.bytes.now (marked source.now.block.xip.now) q j)
         ram.old from.left ram.new result.left }
 {
-    let process = block_records::read_process(block, q);
-    let n = process.first_section as usize + j as usize;
-    let section = block_records::read_section(block, n);
-    let count = xip_sections::pages_taken(xip, n, section.pages);
+    let block = source.block;
+    let n = block_records::read_process(block.bytes, q).section(j);
+    let section = block_records::read_section(block.bytes, n);
+    let count = xip_sections::pages_taken(block.xip, n, section.pages);
     let has_pages = count <= from.left && 4096 * from.left as usize <= ram.len();
     if section.no_copy && has_pages {
         return clear_pages(ram, count, from);
     }
-    load_pages(ram, section, flash, count, from)
+    load_pages(ram, section, source.flash, count, from)
 }
 
 // All sections of process q.
-fn load_process(
-    ram: &mut [u8],
-    block: &[u8],
-    flash: &[u8],
-    xip: &[u8],
-    q: u32,
-    from: PageAllocator,
-) -> PageAllocator
-    ensures { Wrote (section_content block.now flash.now) (section_uses block.now (marked xip.now) q)
+fn load_process(ram: &mut [u8], source: &Source, q: u32, from: PageAllocator) -> PageAllocator
+    ensures { Wrote (section_content source.now.block.bytes.now source.now.flash.now)
+        (section_uses source.now.block.bytes.now (marked source.now.block.xip.now) q)
         ram.old from.left ram.new result.left }
 {
-    let process = block_records::read_process(block, q);
     let mut next = from;
-    for j in 0..process.sections {
-        next = load_section(ram, block, flash, xip, q, j, next);
+    for j in 0..block_records::read_process(source.block.bytes, q).sections {
+        next = load_section(ram, source, q, j, next);
     }
     next
 }
 
 // All sections of all processes: of process 2, 3 and so on, then the kernel's.
-pub fn load_sections(
-    ram: &mut [u8],
-    block: &[u8],
-    flash: &[u8],
-    xip: &[u8],
-    from: PageAllocator,
-) -> PageAllocator
-    ensures { Wrote (section_content block.now flash.now) (all_sections block.now (marked xip.now))
+pub fn load_sections(ram: &mut [u8], source: &Source, from: PageAllocator) -> PageAllocator
+    ensures { Wrote (section_content source.now.block.bytes.now source.now.flash.now)
+        (all_sections source.now.block.bytes.now (marked source.now.block.xip.now))
         ram.old from.left ram.new result.left }
 {
-    let users = block_header::process_count(block).saturating_sub(1);
+    let users = block_header::process_count(source.block.bytes).saturating_sub(1);
     let mut next = from;
     for i in 0..users {
-        next = load_process(ram, block, flash, xip, i + 2, next);
+        next = load_process(ram, source, i + 2, next);
     }
-    load_process(ram, block, flash, xip, 1, next)
+    load_process(ram, source, 1, next)
 }

@@ -1,1 +1,3 @@
+pub mod Loads
 pub mod Pages
+pub mod Uses

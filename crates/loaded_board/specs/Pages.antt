@@ -1,22 +1,23 @@
 -- Pages by their numbers, and the words in them.
-use Rattle.std.specs.Prelude.{ℕ, ◌+◌, ◌-◌, ◌*◌, ◌/◌}
+use Rattle.std.specs.Prelude.{ℕ, ◌+◌, ◌-◌, ◌*◌, ◌/◌, Option, Some, None}
+use Rattle.types.specs.declared.PhysPage.{PhysPage}
 use Rattle.types.specs.declared.Entry.{Entry}
 use Rattle.types.specs.declared.Entry.TheVariants.{Absent, Reserved, Pointer, Page}
 use Rattle.notation.specs.Words.{word}
 use Rattle.rules.specs.Lent.{Memory}
 
--- the physical page number of a page, and of the leaf table that a pointer leads to; 0 of any other entry
-abbrev pub page_number : Entry → ℕ
-page_number Absent = 0
-page_number Reserved = 0
-page_number (Pointer P) = 0
-page_number (Page t P) = P.0
+-- the physical page of a page entry, and the leaf table that a pointer leads to; none of any other entry
+abbrev pub page_of : Entry → Option PhysPage
+page_of Absent = None
+page_of Reserved = None
+page_of (Pointer P) = None
+page_of (Page t P) = Some P
 
-abbrev pub pointer_number : Entry → ℕ
-pointer_number Absent = 0
-pointer_number Reserved = 0
-pointer_number (Pointer P) = P.0
-pointer_number (Page t P) = 0
+abbrev pub leaf_of : Entry → Option PhysPage
+leaf_of Absent = None
+leaf_of Reserved = None
+leaf_of (Pointer P) = Some P
+leaf_of (Page t P) = None
 
 -- word i of physical page P of a memory, whose first page P is below its start too
 abbrev pub page_word : Memory → ℕ → ℕ → ℕ

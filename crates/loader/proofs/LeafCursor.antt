@@ -1,7 +1,7 @@
 -- Laws of the walk over the leaf tables of a process.
+use Rattle.std.proofs.lemmas.Bool.{lt-leb}
 use Rattle.std.proofs.Common.{◌≡◌, refl, ◌∙◌, ◌≢◌, Bool, true, false, List, ℕ, zero, suc, ◌+◌, ◌/◌, ◌≤◌, ◌<◌, max, arith, leb, eqb, eq-eqb, ne_eqb, eqb-true, le-leb}
 use Rattle.std.proofs.Math.Decide.{dec_lt, ℕ_discrete}
-use borrow.Author.Tests.{lt-leb}
 use Rattle.notation.specs.Choice.{choose}
 use Rattle.notation.specs.Lists.{exists}
 use Rattle.rules.specs.Block.{first_section_of, sections_of, section_record, first_page_of, last_page_of}
@@ -137,7 +137,7 @@ module _ {b : List ℕ} {xip : ℕ → Bool} {q : ℕ} (w : Walkable b xip q) wh
         passed = passed_later r p (omega arith);
       }
 
-  pub leaf_found : {m j place r first : ℕ} {s : Section} → Passed b xip q m j place → j < sections_of b q → first ≡ first_section_of b q → IsSection b (first + j) s
+  pub leaf_found : {m j place r n : ℕ} {s : Section} → Passed b xip q m j place → j < sections_of b q → n ≡ section_record b q j → IsSection b n s
       → m ≤ s.last_page.0 / 1024 → r ≡ max m (s.first_page.0 / 1024) → LeafAt b xip q m r j place
   unfolding section_record
   leaf_found p h f is l e = found p h (rw (is.last_page, f) at l) (rw (is.first_page, f) at e)
@@ -173,8 +173,13 @@ module _ {b : List ℕ} {xip : ℕ → Bool} {q : ℕ} (w : Walkable b xip q) wh
 pub passed_none : {b : List ℕ} {xip : ℕ → Bool} {q place : ℕ} (m : ℕ) → place ≡ section_place b xip q → Passed b xip q m 0 place
 passed_none {b} {xip} {q} m e = record { inside = omega arith; below = λ k h. absurd (omega arith); at_place = omega (arith, pages_before_none b xip q) }
 
-pub passed_more : {b : List ℕ} {xip : ℕ → Bool} {q m j place first taken : ℕ} {s : Section} → Passed b xip q m j place → j < sections_of b q → first ≡ first_section_of b q
-    → IsSection b (first + j) s → s.last_page.0 / 1024 < m → taken ≡ choose (xip (first + j)) 0 s.pages → Passed b xip q m (j + 1) (place + taken)
+-- the number of section j's record, from what was read of the process
+pub record_number : (b : List ℕ) (q j : ℕ) {n first : ℕ} → n ≡ first + j → first ≡ first_section_of b q → n ≡ section_record b q j
+unfolding section_record
+record_number b q j e f = rw f at e
+
+pub passed_more : {b : List ℕ} {xip : ℕ → Bool} {q m j place n taken : ℕ} {s : Section} → Passed b xip q m j place → j < sections_of b q → n ≡ section_record b q j
+    → IsSection b n s → s.last_page.0 / 1024 < m → taken ≡ choose (xip n) 0 s.pages → Passed b xip q m (j + 1) (place + taken)
 unfolding section_record pages_taken
 passed_more {b} {xip} {q} {m} {j} p h f is l t = record {
   inside = omega arith;

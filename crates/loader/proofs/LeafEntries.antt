@@ -1,8 +1,8 @@
 -- Laws of the leaf tables: the places of what is mapped, and one mapping written over another.
+use Rattle.std.proofs.lemmas.Bool.{lt-leb}
 use Rattle.std.proofs.Common.{◌≡◌, refl, sym, ap, ◌∙◌, Bool, true, false, ◌&&◌, List, ℕ, zero, suc, ◌+◌, ◌-◌, ◌*◌, ◌/◌, ◌%◌, ◌≤◌, ◌<◌, mod-eq_of_lt, arith, leb, eqb, length, get_or, eq-eqb, ne_eqb, eqb-true, leb-true, ltb-true, le-leb, lt-ltb, le-ltb}
 use Rattle.std.proofs.Math.Option.{none, some}
 use Rattle.std.proofs.Math.Decide.{dec_lt, ℕ_discrete}
-use borrow.Author.Tests.{lt-leb}
 use Rattle.notation.specs.Choice.{choose}
 use Rattle.notation.specs.Lists.{tab, find_last}
 use Rattle.laws.specs.Numbers.{leb_one}
@@ -219,19 +219,19 @@ module _ {b : List ℕ} {xip : ℕ → Bool} {F : ℕ} {ram : PageRange} (fits :
 
 pub mapped_more : {b : List ℕ} {xip : ℕ → Bool} {F : ℕ} {ram : PageRange} {q m j place : ℕ} {e : List ℕ} → Mapped b xip F ram q m j place e
     → Fits b xip ram → FlashNumbers b xip F → Walkable b xip q
-    → {first count P taken : ℕ} {c : Bool} {s : Section} {t : Rights} {e' : List ℕ}
-    → first ≡ first_section_of b q
+    → {n count P taken : ℕ} {c : Bool} {s : Section} {t : Rights} {e' : List ℕ}
+    → n ≡ section_record b q j
     → count ≡ sections_of b q
     → j < count
-    → IsSection b (first + j) s
+    → IsSection b n s
     → t ≡ rights_of q s.writable s.executable
-    → c ≡ xip (first + j)
+    → c ≡ xip n
     → P ≡ choose c (F + s.flash_offset / 4096) ((ram.base + (ram.pages - 1 - place)) % 0x1_0000_0000)
-    → taken ≡ choose (xip (first + j)) 0 s.pages
+    → taken ≡ choose (xip n) 0 s.pages
     → e' ≡ pages_mapped e m s.first_page.0 s.last_page.0 P c t
     → Mapped b xip F ram q m (j + 1) (place + taken) e'
 unfolding section_record section_rights pages_taken
-mapped_more {b} {xip} {ram = ram} {q} {m} {j} {place} {e} t fits numbers walk {P = P} {taken} {c} {s} f n l is rights x a k w =
+mapped_more {b} {xip} {ram = ram} {q} {m} {j} {place} {e} t fits numbers walk {P = P} {taken} {c} {s} f o l is rights x a k w =
     let next = pages_before_next b xip q j in
     let taken_is : taken ≡ choose (xip (first_section_of b q + j)) 0 (page_count b (first_section_of b q + j)) = rw f at (rw is.page_count_is at k) in
     let at_place : place + taken ≡ section_place b xip q + pages_before b xip q (j + 1) = omega (arith, t.at_place) in
@@ -258,8 +258,8 @@ none_from {b} {q} w j v h l = ap (section_mapping b q v) (find_last_skip _ j (se
       | no e ↦ omega (arith, w.rising.rise q j k w.low w.high (omega arith) z, w.rising.ends q j w.low w.high h)
     ]))))
 
-pub mapped_stop : {b : List ℕ} {xip : ℕ → Bool} {F : ℕ} {ram : PageRange} {q m j place : ℕ} {e : List ℕ} → Mapped b xip F ram q m j place e → Walkable b xip q → {first : ℕ} {s : Section}
-    → first ≡ first_section_of b q → j < sections_of b q → IsSection b (first + j) s → m < s.first_page.0 / 1024
+pub mapped_stop : {b : List ℕ} {xip : ℕ → Bool} {F : ℕ} {ram : PageRange} {q m j place : ℕ} {e : List ℕ} → Mapped b xip F ram q m j place e → Walkable b xip q → {n : ℕ} {s : Section}
+    → n ≡ section_record b q j → j < sections_of b q → IsSection b n s → m < s.first_page.0 / 1024
     → e ≡ entries_of (data_page b xip F ram) (section_at_page b q) m
 unfolding entries_of section_record
 mapped_stop {b} {xip} {F} {ram} {q} {m} {j} t w f h is l =

@@ -4,5 +4,5 @@ use Rattle.loader.specs.LeafCursor.{Walkable}
 use Rattle.loader.specs.Planned.{in_flash}
 use Rattle.loader.proofs.LeafEntries.{walkable}
 
-pub walk : (s : Share) → Walkable s.plan.block.now (in_flash s.plan) s.q
-walk s = walkable s.plan.fits s.q s.first s.last
+pub walk : (s : Share) → Walkable s.plan.now.block.bytes.now (in_flash s.plan.now) s.q
+walk s = walkable s.plan.now.fits s.q s.first s.last

@@ -7,8 +7,8 @@ use Rattle.loader.specs.declared.leaf_cursor.LeafCursor.{LeafCursor}
 
 -- the first leaf table from the cursor's slot on, or there is none
 abbrev pub Found : LeafCursor → Option Leaf → Type 0
-Found s r = MatchOption r (First (has_leaf s.share.plan.block.now s.share.q) s.slot 1024)
-    (λ leaf. (leaf.share ≡ s.share) × First (has_leaf s.share.plan.block.now s.share.q) s.slot leaf.slot)
+Found s r = MatchOption r (First (has_leaf s.share.plan.now.block.bytes.now s.share.q) s.slot 1024)
+    (λ leaf. (leaf.share ≡ s.share) × First (has_leaf s.share.plan.now.block.bytes.now s.share.q) s.slot leaf.slot)
 
 -- the same, and the cursor then starts at the slot after it
 abbrev pub NextLeaf : LeafCursor → Option Leaf → LeafCursor → Type 0

@@ -14,16 +14,17 @@ pub(crate) struct Leaf<'a> {
     pub slot: u32,
     pub section: u32,
     pub place: u32,
-    ghost here: { has_leaf share.plan.block.now share.q slot ≡ true },
-    ghost passed: { Passed share.plan.block.now (marked share.plan.xip.now) share.q slot section place },
+    ghost here: { has_leaf share.plan.now.block.bytes.now share.q slot ≡ true },
+    ghost passed: { Passed share.plan.now.block.bytes.now (marked share.plan.now.block.xip.now) share.q slot section place },
 }
 
-// The leaf tables from root slot `slot` on. The sections before `section` end below it.
+// The leaf tables from root slot `slot` on. The sections before `section` end below it. (The fields are a leaf's, without its fact that there
+// is a table here. With one in the other a leaf's slot would be read as `leaf.at.slot` wherever it is used.)
 #[derive(Clone, Copy)]
 pub(crate) struct LeafCursor<'a> {
     pub share: Share<'a>,
     pub slot: u32,
     pub section: u32,
     pub place: u32,
-    ghost passed: { Passed share.plan.block.now (marked share.plan.xip.now) share.q slot section place },
+    ghost passed: { Passed share.plan.now.block.bytes.now (marked share.plan.now.block.xip.now) share.q slot section place },
 }

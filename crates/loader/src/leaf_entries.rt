@@ -12,7 +12,8 @@ use crate::plan::Plan;
 use block_records::Section;
 use order_places::tracker_place;
 use page_allocator::page_at;
-use types::{KERNEL_SLOT, PAGE_BYTES, PhysPage, Rights, TABLE_ENTRIES, VirtPage};
+use sv32_tables::Run;
+use types::{KERNEL_SLOT, PAGE_BYTES, PhysPage, Rights, VirtPage};
 
 // The virtual page of the block copy.
 const BLOCK_COPY: u32 = 0xFFF00;
@@ -47,42 +48,49 @@ fn kernel_rights(write: bool) -> Rights
     }
 }
 
-// The physical page of a section's first page: in flash where it is used in place, else the page at `place` in the order of pages.
-fn first_page(plan: &Plan, section: Section, in_place: bool, place: u32) -> PhysPage
-    ensures { result.0 ≡ choose in_place (plan.now.flash_start / 4096 + section.flash_offset / 4096) ((plan.now.range.base + (plan.now.range.pages - 1 - place)) % 0x1_0000_0000) }
+// The physical pages of a section: in flash, upwards, where it is used in place, else downwards from the page at `place` in the order of
+// pages.
+#[tactic(auto, unfolding(notation::specs::Choice::choose))]
+fn section_run(plan: &Plan, section: Section, in_place: bool, place: u32) -> Run
+    ensures rises { result.rises ≡ in_place }
+    ensures first { result.first.0 ≡ choose in_place (plan.now.flash_start / 4096 + section.flash_offset / 4096) ((plan.now.range.base + (plan.now.range.pages - 1 - place)) % 0x1_0000_0000) }
 {
-    if in_place {
-        return PhysPage(plan.flash_start / PAGE_BYTES + section.flash_offset / PAGE_BYTES);
+    let first = if in_place {
+        PhysPage(plan.flash_start / PAGE_BYTES + section.flash_offset / PAGE_BYTES)
+    } else {
+        page_at(plan.range, place)
+    };
+    Run {
+        first,
+        rises: in_place,
     }
-    page_at(plan.range, place)
 }
 
 // Maps the sections of the leaf's process in its table, whose entries are all absent, from the first that has a page in it to the last.
 fn map_sections(entries: &mut [u32], leaf: &Leaf)
     requires { entries.old ≡ tab 1024 (λ i. 0) }
-    ensures { entries.new ≡ entries_of (page_of_data leaf.now.share.plan) (section_at_page leaf.now.share.plan.block.now leaf.now.share.q) leaf.now.slot }
+    ensures { entries.new ≡ entries_of (page_of_data leaf.now.share.plan.now) (section_at_page leaf.now.share.plan.now.block.bytes.now leaf.now.share.q) leaf.now.slot }
 {
-    let plan = &leaf.share.plan;
+    let plan = leaf.share.plan;
     let q = leaf.share.q;
-    let process = block_records::read_process(plan.block, q);
+    let process = block_records::read_process(plan.block.bytes, q);
     let mut place = leaf.place;
     for j in leaf.section..process.sections {
-        let n = process.first_section as usize + j as usize;
-        let section = block_records::read_section(plan.block, n);
-        if leaf.slot < section.first_page.0 / TABLE_ENTRIES {
+        let n = process.section(j);
+        let section = block_records::read_section(plan.block.bytes, n);
+        if leaf.slot < section.first_page.slot() {
             return;
         }
-        let in_place = xip_sections::is_marked(plan.xip, n);
+        let in_place = xip_sections::is_marked(plan.block.xip, n);
         sv32_tables::map_pages(
             entries,
             leaf.slot,
             section.first_page,
             section.last_page,
-            first_page(plan, section, in_place, place),
-            in_place,
+            section_run(plan, section, in_place, place),
             section_rights(q, section),
         );
-        place += xip_sections::pages_taken(plan.xip, n, section.pages);
+        place += xip_sections::pages_taken(plan.block.xip, n, section.pages);
     }
 }
 
@@ -91,26 +99,22 @@ fn map_sections(entries: &mut [u32], leaf: &Leaf)
 fn map_own(entries: &mut [u32], from: VirtPage, to: VirtPage, first: PhysPage, write: bool)
     ensures { entries.new ≡ pages_mapped entries.old 1023 from.0 to.0 first.0 false (choose write kernel_write kernel_read) }
 {
-    sv32_tables::map_pages(
-        entries,
-        KERNEL_SLOT,
-        from,
-        to,
+    let run = Run {
         first,
-        false,
-        kernel_rights(write),
-    );
+        rises: false,
+    };
+    sv32_tables::map_pages(entries, KERNEL_SLOT, from, to, run, kernel_rights(write));
 }
 
 // The kernel's leaf table: its sections, over them the block copy, then the tracker, and last the process list, which a
 // tracker of over 64 pages would reach.
 fn kernel_entries(entries: &mut [u32], leaf: &Leaf)
     requires { (leaf.now.share.q ≡ 1) × (leaf.now.slot ≡ 1023) × (entries.old ≡ tab 1024 (λ i. 0)) }
-    ensures { entries.new ≡ entries_of (page_of_data leaf.now.share.plan) (kernel_page leaf.now.share.plan.block.now (tracker_size leaf.now.share.plan)) 1023 }
+    ensures { entries.new ≡ entries_of (page_of_data leaf.now.share.plan.now) (kernel_page leaf.now.share.plan.now.block.bytes.now (tracker_size leaf.now.share.plan.now)) 1023 }
 {
-    let plan = &leaf.share.plan;
-    let place = tracker_place(plan.block, plan.xip);
-    let count = order_tracker::tracker_pages(plan.block, plan.range.pages) as u32;
+    let plan = leaf.share.plan;
+    let place = tracker_place(&plan.block);
+    let count = order_tracker::tracker_pages(plan.block.bytes, plan.range.pages) as u32;
     let tracker = page_at(plan.range, place);
     let list = page_at(plan.range, place + count);
     let copy = page_at(plan.range, place + count + 1);
@@ -127,17 +131,19 @@ fn kernel_entries(entries: &mut [u32], leaf: &Leaf)
 // A user process's leaf table: its sections, and over them the stack reservation.
 fn user_entries(entries: &mut [u32], leaf: &Leaf)
     requires { entries.old ≡ tab 1024 (λ i. 0) }
-    ensures { entries.new ≡ entries_of (page_of_data leaf.now.share.plan) (user_page leaf.now.share.plan.block.now leaf.now.share.q) leaf.now.slot }
+    ensures { entries.new ≡ entries_of (page_of_data leaf.now.share.plan.now) (user_page leaf.now.share.plan.now.block.bytes.now leaf.now.share.q) leaf.now.slot }
 {
+    let plan = leaf.share.plan;
     map_sections(entries, leaf);
-    let pages = block_records::stack_pages(leaf.share.plan.block, leaf.share.q);
+    let pages = block_records::stack_pages(plan.block.bytes, leaf.share.q);
     sv32_tables::reserve_stack(entries, leaf.slot, pages);
 }
 
-// A leaf table, from entries that are all absent.
+// A leaf table, from entries that are all absent. (A function that returned its table would keep a copy of 4 KiB on the stack, which is fixed
+// memory: with tables returned `tools/rv32-stack` tells three times as many bytes.)
 pub(crate) fn leaf_entries(entries: &mut [u32], leaf: &Leaf)
     requires { entries.old ≡ tab 1024 (λ i. 0) }
-    ensures { entries.new ≡ tab 1024 (leaf_entries_of leaf.now.share.plan leaf.now.share.q leaf.now.slot) }
+    ensures { entries.new ≡ tab 1024 (leaf_entries_of leaf.now.share.plan.now leaf.now.share.q leaf.now.slot) }
 {
     if leaf.share.q == 1 {
         kernel_entries(entries, leaf);

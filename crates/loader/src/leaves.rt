@@ -7,7 +7,7 @@ ghost use Rattle.loader.specs.Leaves.{Found, NextLeaf};
 
 use crate::leaf_cursor::{Leaf, LeafCursor};
 use crate::plan::Share;
-use types::{KERNEL_SLOT, STACK_SLOT, TABLE_ENTRIES};
+use types::{KERNEL_SLOT, STACK_SLOT};
 
 // The slot for which process q has a leaf table whatever its sections.
 fn own_slot(q: u32) -> u32
@@ -21,13 +21,14 @@ fn leaf_from<'a>(from: &LeafCursor<'a>) -> Option<Leaf<'a>>
     ensures { Found from.now result }
 {
     let share = from.share;
-    let process = block_records::read_process(share.plan.block, share.q);
+    let plan = share.plan;
+    let process = block_records::read_process(plan.block.bytes, share.q);
     let mut place = from.place;
     for j in from.section..process.sections {
-        let n = process.first_section as usize + j as usize;
-        let section = block_records::read_section(share.plan.block, n);
-        if from.slot <= section.last_page.0 / TABLE_ENTRIES {
-            let slot = from.slot.max(section.first_page.0 / TABLE_ENTRIES);
+        let n = process.section(j);
+        let section = block_records::read_section(plan.block.bytes, n);
+        if from.slot <= section.last_page.slot() {
+            let slot = from.slot.max(section.first_page.slot());
             return Some(Leaf {
                 share,
                 slot,
@@ -35,7 +36,7 @@ fn leaf_from<'a>(from: &LeafCursor<'a>) -> Option<Leaf<'a>>
                 place,
             });
         }
-        place += xip_sections::pages_taken(share.plan.xip, n, section.pages);
+        place += xip_sections::pages_taken(plan.block.xip, n, section.pages);
     }
     let slot = own_slot(share.q);
     if slot < from.slot {

@@ -9,6 +9,7 @@ ghost use Rattle.writing.specs.Pages.{put};
 ghost use Rattle.loader.specs.Planned.{root_at, left_at_list, list_bytes};
 
 use crate::plan::Plan;
+use crate::start_words;
 use page_allocator::{PageAllocator, page_at};
 use types::PhysPage;
 
@@ -20,11 +21,11 @@ fn put_process(page: &mut [u8], block: &[u8], q: u32, root: PhysPage)
         (12 * (q - 1) + 4) (entry_point_of block.now q))
         (12 * (q - 1) + 8) (stack_pointer q) }
 {
-    let process = block_records::read_process(block, q);
+    let [satp, entry_point, stack_pointer] = start_words(block, q, root);
     let at = 12 * (q as usize - 1);
-    word_stores::put_word(page, at, sv32_entries::satp_word(q, root));
-    word_stores::put_word(page, at + 4, process.entry_point);
-    word_stores::put_word(page, at + 8, block_records::stack_pointer(q));
+    word_stores::put_word(page, at, satp);
+    word_stores::put_word(page, at + 4, entry_point);
+    word_stores::put_word(page, at + 8, stack_pointer);
 }
 
 // The whole list. `first` is the place of the kernel's root table in the order of pages; each root is followed by the leaf
@@ -35,9 +36,9 @@ fn list_processes(page: &mut [u8], plan: &Plan, first: u32)
 {
     stores::clear(page);
     let mut place = first;
-    for i in 0..block_header::process_count(plan.block) {
-        put_process(page, plan.block, i + 1, page_at(plan.range, place));
-        place += order_leaves::table_count(plan.block, i + 1);
+    for i in 0..block_header::process_count(plan.block.bytes) {
+        put_process(page, plan.block.bytes, i + 1, page_at(plan.range, place));
+        place += order_leaves::table_count(plan.block.bytes, i + 1);
     }
 }
 
@@ -47,7 +48,8 @@ pub(crate) fn load_process_list(ram: &mut [u8], plan: &Plan, from: PageAllocator
     ensures { (result.left ≡ from.left - 1) × (ram.new ≡ put ram.old (from.left - 1) (list_bytes plan.now)) }
 {
     let got = from.allocate();
-    // Lent here: a closure for `fill_page` that captures a plan is not proved.
+    // Lent here, and not cut where RAM ends (D60): with a closure for `fill_page` that captures a plan, a proof does not reach what the
+    // closure promises.
     let start = got.page.0 as usize * 4096;
     let page = &mut ram[start..start + 4096];
     list_processes(page, plan, plan.range.pages - from.left + 2);

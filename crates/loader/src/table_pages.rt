@@ -22,10 +22,10 @@ fn store(ram: &mut [u8], k: RamPage, entries: &[u32])
     fill_page(ram, k, |page| word_stores::words_in(page, entries));
 }
 
-// Points a root table, whose entries are all absent, to the leaf tables of a process, which lie from physical page `first` downwards.
+// Points a root table, whose entries are all absent (and lent: see `leaf_entries`), to the leaf tables of a process, which lie from physical page `first` downwards.
 fn point_to_leaves(entries: &mut [u32], share: &Share, first: PhysPage)
     requires { entries.old ≡ tab 1024 (λ i. 0) }
-    ensures { entries.new ≡ tab 1024 (leaf_pointer share.now.plan.block.now share.now.q first.0) }
+    ensures { entries.new ≡ tab 1024 (leaf_pointer share.now.plan.now.block.bytes.now share.now.q first.0) }
 {
     let mut page = first.0;
     for leaf in share.leaves() {
@@ -37,8 +37,8 @@ fn point_to_leaves(entries: &mut [u32], share: &Share, first: PhysPage)
 // The root table of a process into RAM page k. Its leaf tables lie from physical page `first` downwards; the last entry points to the
 // kernel's leaf table.
 fn load_root(ram: &mut [u8], k: RamPage, share: &Share, first: PhysPage, kernel_leaf: PhysPage)
-    requires { LeavesAt share.now.plan.block.now (in_flash share.now.plan) share.now.plan.range share.now.q first.0 kernel_leaf.0 }
-    ensures { ram.new ≡ put ram.old k.0 (root_bytes share.now.plan share.now.q) }
+    requires { LeavesAt share.now.plan.now.block.bytes.now (in_flash share.now.plan.now) share.now.plan.now.range share.now.q first.0 kernel_leaf.0 }
+    ensures { ram.new ≡ put ram.old k.0 (root_bytes share.now.plan.now share.now.q) }
 {
     let mut entries = [0u32; 1024];
     point_to_leaves(&mut entries, share, first);
@@ -48,7 +48,7 @@ fn load_root(ram: &mut [u8], k: RamPage, share: &Share, first: PhysPage, kernel_
 
 // A leaf table into RAM page k.
 fn load_leaf(ram: &mut [u8], k: RamPage, leaf: &Leaf)
-    ensures { ram.new ≡ put ram.old k.0 (table_byte (leaf_entries_of leaf.now.share.plan leaf.now.share.q leaf.now.slot)) }
+    ensures { ram.new ≡ put ram.old k.0 (table_byte (leaf_entries_of leaf.now.share.plan.now leaf.now.share.q leaf.now.slot)) }
 {
     let mut entries = [0u32; 1024];
     leaf_entries(&mut entries, leaf);
@@ -57,7 +57,7 @@ fn load_leaf(ram: &mut [u8], k: RamPage, leaf: &Leaf)
 
 // The leaf tables of a process, rising.
 fn load_leaves(ram: &mut [u8], share: &Share, from: PageAllocator) -> PageAllocator
-    ensures { Loads share.now.plan (gather 1024 (leaf_uses share.now.plan.block.now share.now.q)) ram.old from.left ram.new result.left }
+    ensures { Loads share.now.plan.now (gather 1024 (leaf_uses share.now.plan.now.block.bytes.now share.now.q)) ram.old from.left ram.new result.left }
 {
     let mut next = from;
     for leaf in share.leaves() {
@@ -75,41 +75,43 @@ fn load_process_tables(
     kernel_leaf: PhysPage,
     from: PageAllocator,
 ) -> PageAllocator
-    requires { (kernel_leaf.0 ≡ page_of_use share.now.plan (leaf_table 1 1023)) × (from.left ≡ left_at_root share.now.plan share.now.q) }
-    ensures { Loads share.now.plan (table_uses share.now.plan.block.now share.now.q) ram.old from.left ram.new result.left }
+    requires { (kernel_leaf.0 ≡ page_of_use share.now.plan.now (leaf_table 1 1023)) × (from.left ≡ left_at_root share.now.plan.now share.now.q) }
+    ensures { Loads share.now.plan.now (table_uses share.now.plan.now.block.bytes.now share.now.q) ram.old from.left ram.new result.left }
 {
     let root = from.allocate();
     // The page that the first leaf table gets.
     let leaf = root.rest.allocate();
-    let first = physical(share.plan.range, leaf.page);
+    let plan = share.plan;
+    let first = physical(plan.range, leaf.page);
     load_root(ram, root.page, share, first, kernel_leaf);
     load_leaves(ram, share, root.rest)
 }
 
 // The place of the first section page of the next process. Process 2 comes first in the order of pages, the kernel last.
 fn next_section_place(share: &Share) -> u32
-    ensures { result ≡ section_place share.now.plan.block.now (in_flash share.now.plan) (share.now.q + 1) }
+    ensures { result ≡ section_place share.now.plan.now.block.bytes.now (in_flash share.now.plan.now) (share.now.q + 1) }
 {
     if share.q == 1 {
         return TOP_PAGES;
     }
-    share.place + order_places::process_pages(share.plan.block, share.plan.xip, share.q) as u32
+    let plan = share.plan;
+    share.place + order_places::process_pages(&plan.block, share.q) as u32
 }
 
 // The tables of all processes, the kernel's first.
 pub(crate) fn load_tables(ram: &mut [u8], plan: &Plan, from: PageAllocator) -> PageAllocator
     requires { from.left ≡ left_at_root plan.now 1 }
-    ensures { Loads plan.now (all_tables plan.now.block.now) ram.old from.left ram.new result.left }
+    ensures { Loads plan.now (all_tables plan.now.block.bytes.now) ram.old from.left ram.new result.left }
 {
     // The kernel's root and its one leaf table get the next two pages.
     let root = from.allocate();
     let leaf = root.rest.allocate();
     let kernel_leaf = physical(plan.range, leaf.page);
     let mut next = from;
-    let mut place = order_places::section_place(plan.block, plan.xip, 1);
-    for i in 0..block_header::process_count(plan.block) {
+    let mut place = order_places::section_place(&plan.block, 1);
+    for i in 0..block_header::process_count(plan.block.bytes) {
         let share = Share {
-            plan: *plan,
+            plan: &*plan,
             q: i + 1,
             place,
         };

@@ -18,8 +18,8 @@ fn track_owners(page: &mut [u8], plan: &Plan)
     stores::fill(page, (pages - plan.needed) as usize, pages as usize, 1);
     // Below the four pages at the top: process 2's, then process 3's and so on.
     let mut end = pages - TOP_PAGES;
-    for i in 0..block_header::process_count(plan.block) - 1 {
-        let start = end - order_places::process_pages(plan.block, plan.xip, i + 2) as u32;
+    for i in 0..block_header::process_count(plan.block.bytes) - 1 {
+        let start = end - order_places::process_pages(&plan.block, i + 2) as u32;
         stores::fill(page, start as usize, end as usize, (i + 2) as u8);
         end = start;
     }
@@ -40,7 +40,7 @@ fn track_page(page: &mut [u8], plan: &Plan, i: u32)
 fn load_tracker_page(ram: &mut [u8], k: RamPage, plan: &Plan, i: u32)
     ensures { ram.new ≡ put ram.old k.0 (tracker_bytes plan.now i) }
 {
-    // Lent here: a closure for `fill_page` that captures a plan is not proved.
+    // Lent here: with a closure for `fill_page` that captures a plan, a proof does not reach what the closure promises.
     let from = (k.0 as usize * 4096).min(ram.len());
     let to = (from + 4096).min(ram.len());
     track_page(&mut ram[from..to], plan, i);
@@ -51,7 +51,7 @@ pub(crate) fn load_tracker(ram: &mut [u8], plan: &Plan, from: PageAllocator) -> 
     ensures { Loads plan.now (tracker_uses (tracker_size plan.now)) ram.old from.left ram.new result.left }
 {
     let mut next = from;
-    for i in 0..order_tracker::tracker_pages(plan.block, plan.range.pages) as u32 {
+    for i in 0..order_tracker::tracker_pages(plan.block.bytes, plan.range.pages) as u32 {
         let got = next.allocate();
         load_tracker_page(ram, got.page, plan, i);
         next = got.rest;

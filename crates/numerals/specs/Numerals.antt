@@ -2,8 +2,14 @@
 use Rattle.std.specs.Prelude.{Bool, false, ◌&&◌, List, [], ◌∷◌, ℕ, ◌+◌, ◌*◌, ◌-◌, eqb, leb, ltb, length, get_or, drop, Result, Ok, Err}
 use Rattle.notation.specs.Choice.{choose, any}
 use Rattle.notation.specs.Lists.{some_of}
+use Rattle.numerals.specs.declared.Base.{Base}
+use Rattle.numerals.specs.declared.Base.TheVariants.{Decimal, Hexadecimal}
 use Rattle.numerals.specs.declared.NumberError.{NumberError}
 use Rattle.numerals.specs.declared.NumberError.TheVariants.{TooLarge, NotNumber}
+
+abbrev pub radix_of : Base → ℕ
+radix_of Decimal = 10
+radix_of Hexadecimal = 16
 
 -- c is one of the bytes from a to b
 unfoldable pub between : ℕ → ℕ → ℕ → Bool

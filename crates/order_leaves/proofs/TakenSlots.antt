@@ -1,7 +1,7 @@
 -- The root slots of some sections, counted section by section.
+use Rattle.std.proofs.lemmas.Bool.{lt-leb}
+use Rattle.std.proofs.Math.Decide.{dec_lt}
 use Rattle.std.proofs.Common.{◌≡◌, refl, sym, ap, ◌∙◌, Bool, true, false, not, ◌&&◌, List, ℕ, zero, suc, ◌+◌, ◌-◌, ◌*◌, ◌/◌, ◌≤◌, ◌<◌, min, max, zero-mul, suc-mul, add-one, arith, leb, eqb, length, eq-eqb, ne_eqb, le-leb}
-use native.Mathlib.Decide.{dec_lt}
-use borrow.Author.Tests.{lt-leb}
 use Rattle.notation.specs.Choice.{choose}
 use Rattle.notation.specs.Lists.{exists, sum}
 use Rattle.laws.specs.Numbers.{leb_one}
@@ -25,7 +25,7 @@ outside a z k h = elim (dec_lt k a) [
 ]
 
 -- SECTION BY SECTION
-pub taken_none : (b : List ℕ) (f m : ℕ) → slot_taken b f 0 m ≡ false
+taken_none : (b : List ℕ) (f m : ℕ) → slot_taken b f 0 m ≡ false
 unfolding slot_taken exists
 taken_none b f m = refl
 
@@ -33,12 +33,6 @@ taken_next : (b : List ℕ) (f k : ℕ) {s x y : ℕ} → s ≡ f + k → x ≡ 
     → slot_taken b f (k + 1) ≡ with_slots (x / 1024) (y / 1024) (slot_taken b f k)
 unfolding slot_taken with_slots exists in_slots slots_of
 taken_next b f k es ex ey = rw (add-one, ex, ey, es)
-
--- by the last of k records, and those before it
-pub taken_last : (b : List ℕ) (f k m : ℕ) {s x y : ℕ} → 0 < k → s ≡ f + (k - 1) → x ≡ first_page_of b s → y ≡ last_page_of b s
-    → slot_taken b f k m ≡ choose (leb (x / 1024) m && leb m (y / 1024)) true (slot_taken b f (k - 1) m)
-unfolding with_slots
-taken_last b f k m h es ex ey = let e : k - 1 + 1 ≡ k = omega arith in rw e at (ap (λ t. t m) (taken_next b f (k - 1) es ex ey))
 
 pub is_taken_none : (b : List ℕ) (f : ℕ) → IsTaken (slot_taken b f 0) (record { slots = 0; end = 0 })
 is_taken_none b f = record { slots_are = sym (sum_zero 1024 _ (λ m _. one_no (taken_none b f m))); end_low = omega arith; none_after = λ m _ _. taken_none b f m }

@@ -1,23 +1,26 @@
 // How many tables a process has, counted by root slot, section by section. Nothing here goes page by page.
 #![tactic(auto)]
 
-ghost use Rattle.std.specs.Prelude.{◌≡◌, length};
+ghost use Rattle.std.specs.Prelude.{◌&&◌, ◌≡◌, ◌/◌, leb, length};
 ghost use Rattle.rules.specs.Order.{table_uses};
 ghost use Rattle.order_leaves.specs.TakenSlots.{slot_taken, with_slots, IsTaken};
 
+use block_records::Section;
 use types::{STACK_SLOT, TABLE_ENTRIES};
+
+// A section has a page in root slot m.
+fn has_slot(section: Section, m: u32) -> bool
+    ensures { result ≡ (leb (section.first_page.0 / 1024) m && leb m (section.last_page.0 / 1024)) }
+{
+    section.first_page.slot() <= m && m <= section.last_page.slot()
+}
 
 // One of the k section records from `first` on has a page in root slot m. The last is asked first.
 fn slot_taken(block: &[u8], first: u32, k: u32, m: u32) -> bool
     ensures { result ≡ slot_taken block.now first k m }
 {
-    for i in (0..k).rev() {
-        let section = block_records::read_section(block, first as usize + i as usize);
-        if section.first_page.0 / TABLE_ENTRIES <= m && m <= section.last_page.0 / TABLE_ENTRIES {
-            return true;
-        }
-    }
-    false
+    let at = first as usize;
+    (0..k).rev().any(|i| has_slot(block_records::read_section(block, at + i as usize), m))
 }
 
 // Some root slots: how many, and a slot that all of them are below.
@@ -61,14 +64,14 @@ pub fn table_count(block: &[u8], q: u32) -> u32
     let sections = process.sections;
     let mut taken = Taken { slots: 0, end: 0 };
     for j in 0..sections {
-        let section = block_records::read_section(block, first as usize + j as usize);
+        let section = block_records::read_section(block, process.section(j));
         taken = take_slots(
             block,
             first,
             j,
             taken,
-            section.first_page.0 / TABLE_ENTRIES,
-            section.last_page.0 / TABLE_ENTRIES,
+            section.first_page.slot(),
+            section.last_page.slot(),
         );
     }
     let all = take_slots(block, first, sections, taken, STACK_SLOT, STACK_SLOT);

@@ -1,7 +1,6 @@
 -- The root of a process, case by case.
-use Rattle.std.proofs.Common.{◌≡◌, refl, sym, ap, ◌∙◌, ◌≢◌, List, Bool, true, false, ◌&&◌, arith, eqb, eq-eqb, ne_eqb, le-leb}
-use Prim.Native.Nat.{ℕ, ◌+◌, ◌-◌, ◌%◌, ◌≤◌, ◌<◌}
-use borrow.Author.Tests.{lt-leb}
+use Rattle.std.proofs.lemmas.Bool.{lt-leb}
+use Rattle.std.proofs.Common.{◌≡◌, refl, sym, ap, ◌∙◌, ◌≢◌, List, Bool, true, false, ◌&&◌, arith, eqb, eq-eqb, ne_eqb, le-leb, ℕ, ◌+◌, ◌-◌, ◌%◌, ◌≤◌, ◌<◌}
 use Rattle.notation.specs.Choice.{choose}
 use Rattle.rules.specs.Answers.{Answer}
 use Rattle.types.specs.declared.Area.{Area}

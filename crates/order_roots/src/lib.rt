@@ -7,6 +7,7 @@ ghost use Rattle.order_roots.specs.Roots.{root_found};
 
 use lent::Image;
 use types::{Area, PageRange, PhysPage};
+use xip_sections::MarkedBlock;
 
 // The root table of process q, by the order of pages, for RAM that lies here: none where the block is refused or has no such process.
 pub fn find_root(image: Image<'_>, ram: Area, q: u32) -> Option<PhysPage>
@@ -23,6 +24,10 @@ pub fn find_root(image: Image<'_>, ram: Area, q: u32) -> Option<PhysPage>
         base: ram.start / 4096,
         pages: (ram.length / 4096) as u32,
     };
-    let place = order_places::root_place(image.block, &xip, range.pages, q);
+    let block = MarkedBlock {
+        bytes: image.block,
+        xip: &xip,
+    };
+    let place = order_places::root_place(&block, range.pages, q);
     Some(page_allocator::page_at(range, place))
 }

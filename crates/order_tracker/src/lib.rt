@@ -9,15 +9,13 @@ ghost use Rattle.rules.specs.Order.{tracker_pages};
 pub fn io_pages_of(block: &[u8], n: u32) -> u64
     ensures { (result ≡ io_pages_of block.now n) × (result ≤ 4294967295 * n) }
 {
-    let mut sum: u64 = 0;
-    for i in 0..n {
-        let region = block_records::read_region(block, i);
-        sum += u64::from(region.pages);
-    }
-    sum
+    (0..n)
+        .map(|i| u64::from(block_records::read_region(block, i).pages))
+        .sum()
 }
 
 // The pages of the page tracker, where RAM has `pages` pages: one byte for each RAM and I/O page.
+#[tactic(auto, unfolding(rules::specs::Order::tracker_pages, rules::specs::Order::pages_for, rules::specs::Block::io_pages))]
 pub fn tracker_pages(block: &[u8], pages: u32) -> u64
     ensures { (result ≡ tracker_pages block.now pages) × (result ≤ 0x10_0000_0000_0000) }
 {

@@ -1,12 +1,13 @@
 -- Words and numbers of a line.
-use Rattle.std.proofs.Common.{◌≡◌, ◌≢◌, refl, sym, ap, ◌∙◌, List, [], ◌∷◌, Bool, true, false, ℕ, ◌+◌, ◌-◌, ◌≤◌, ◌<◌, eqb, ltb, length, get_or, set, drop, Option, Some, None, Result, Ok, Err, below_more, replicate, length-set, get_or-set_same, get_or-set_other, get_or-drop, length-drop, arith, eq-eqb, ne_eqb, lt-ltb, le-ltb}
-use Rattle.std.specs.Cmp.Lexicographic.{pointwise}
+use Rattle.std.proofs.Common.{rules, codes, ◌≡◌, ◌≢◌, refl, sym, ap, ◌∙◌, List, [], true, false, ℕ, ◌+◌, ◌-◌, ◌≤◌, ◌<◌, eqb, ltb, length, get_or, set, drop, Option, Some, None, Result, Ok, Err, below_more, replicate, length-set, get_or-set_same, get_or-set_other, get_or-drop, length-drop, arith, eq-eqb, ne_eqb, lt-ltb, le-ltb}
+use Rattle.std.specs.Bool.{Decides}
+use Rattle.std.proofs.lemmas.Slice.Eq.{HasBytesAt, compares_Decides, text_from_reads}
 use Rattle.std.specs.Result.{result_map_both}
 use Rattle.std.proofs.lemmas.List.{length-replicate}
 use Rattle.std.proofs.lemmas.List.Sums.{position_or_len_is}
 use Rattle.notation.specs.Choice.{choose}
 use Rattle.notation.specs.Lists.{tab}
-use Rattle.laws.specs.Choice.{choose_yes, choose_no, choose_map}
+use Rattle.laws.specs.Choice.{choose_yes, choose_no, choose_map, by_test}
 use Rattle.laws.specs.Lists.{tab_by}
 use Rattle.numerals.specs.Numerals.{number_of}
 use Rattle.numerals.specs.declared.NumberError.{NumberError}
@@ -19,16 +20,30 @@ use Rattle.record_lines.specs.declared.Record.TheVariants.{Process, Section, Reg
 use Rattle.record_lines.specs.declared.Fault.{Fault}
 use Rattle.record_lines.specs.declared.Fault.TheVariants.{UnknownWord, WrongCount}
 
-pub same_is : (s t : List ℕ) → pointwise eqb s t ≡ same s t
+-- WORDS
+same_Decides : (s t : List ℕ) → Decides (same s t) (s ≡ t)
 unfolding same
-same_is [] [] = refl
-same_is [] (b ∷ t) = refl
-same_is (a ∷ s) [] = refl
-same_is (a ∷ s) (b ∷ t) = rw (same_is s t)
+same_Decides = compares_Decides same (search rules)
 
--- a comparison with a word
-pub same_as : (t w s : List ℕ) (b r : Bool) → s ≡ w → b ≡ pointwise eqb t s → b ≡ r → same t w ≡ r
-same_as t w s b r e h g = rw (← g, h, e) (sym (same_is t w))
+differ : (s t : List ℕ) → s ≢ t → same s t ≡ false
+differ s t n = by_test (λ c. c ≡ false) (same s t) (λ e. absurd (n ((same_Decides s t).0 e))) (λ e. refl)
+
+module _ (t : List ℕ) where
+  pub word_process : length t ≡ 7 → HasBytesAt t 0 (codes "process") → Some kind.Process ≡ word_of t
+  unfolding word_of same choose
+  word_process n h = rw (text_from_reads t (codes "process") n h)
+
+  pub word_section : length t ≡ 7 → HasBytesAt t 0 (codes "section") → Some kind.Section ≡ word_of t
+  unfolding word_of same choose
+  word_section n h = rw (text_from_reads t (codes "section") n h)
+
+  pub word_region : length t ≡ 6 → HasBytesAt t 0 (codes "region") → Some kind.Region ≡ word_of t
+  unfolding word_of same choose
+  word_region n h = rw (text_from_reads t (codes "region") n h)
+
+  pub word_unknown : t ≢ codes "process" → t ≢ codes "section" → t ≢ codes "region" → None ≡ word_of t
+  unfolding word_of choose
+  word_unknown p s r = rw (differ _ _ p, differ _ _ s, differ _ _ r)
 
 -- NUMBERS
 abbrev pub number_at : List (List ℕ) → ℕ → Result ℕ NumberError

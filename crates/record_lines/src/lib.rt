@@ -40,26 +40,15 @@ pub enum Fault {
     TooLarge(usize),
 }
 
+#[tactic(auto, using(crate::proofs::Lines::word_process, crate::proofs::Lines::word_section, crate::proofs::Lines::word_region, crate::proofs::Lines::word_unknown))]
 fn kind_of(word: &[u8]) -> Option<Kind>
     ensures { result ≡ word_of word.now }
 {
-    if word == b"process".as_slice() {
-        Some(Kind::Process)
-    } else if word == b"section".as_slice() {
-        Some(Kind::Section)
-    } else if word == b"region".as_slice() {
-        Some(Kind::Region)
-    } else {
-        None
-    }
-}
-
-fn fault_at(k: usize, error: NumberError) -> Fault
-    ensures { result ≡ fault_at k (Err error) }
-{
-    match error {
-        NumberError::TooLarge => Fault::TooLarge(k),
-        NumberError::NotNumber => Fault::NotNumber(k),
+    match word {
+        b"process" => Some(Kind::Process),
+        b"section" => Some(Kind::Section),
+        b"region" => Some(Kind::Region),
+        _ => None,
     }
 }
 
@@ -69,7 +58,10 @@ fn number_at(line: &[u8], k: usize) -> Result<u32, Fault>
         (λ v. number_of (get_or (fields line.now) k []) ≡ Ok v)
         (λ fault. (unread (number_of (get_or (fields line.now) k [])) ≡ true) × (fault ≡ fault_at k (number_of (get_or (fields line.now) k [])))) }
 {
-    numerals::read_number(record_fields::field(line, k)).map_err(|error| fault_at(k, error))
+    numerals::read_number(record_fields::field(line, k)).map_err(|error| match error {
+        NumberError::TooLarge => Fault::TooLarge(k),
+        NumberError::NotNumber => Fault::NotNumber(k),
+    })
 }
 
 // The numbers after the word, where N belong there.
@@ -82,13 +74,14 @@ fn read_numbers<const N: usize>(line: &[u8]) -> Result<[u32; N], Fault>
         return Err(Fault::WrongCount(N, count - 1));
     }
     let mut numbers = [0; N];
-    for k in 0..N {
-        numbers[k] = number_at(line, k + 1)?;
+    for (k, number) in numbers.iter_mut().enumerate() {
+        *number = number_at(line, k + 1)?;
     }
     Ok(numbers)
 }
 
 // What a line says; `None` where it has no field. The word is looked at first, then how many numbers there are, then each number.
+#[tactic(auto, using(crate::proofs::Lines::said_empty, crate::proofs::Lines::said_unknown), unfolding(crate::specs::Lines::line_of))]
 pub fn read_line(line: &[u8]) -> Result<Option<Record>, Fault>
     ensures { result ≡ line_of line.now }
 {

@@ -1,139 +1,168 @@
 -- Lines read one after the other, and the words of their records.
-use Rattle.std.proofs.Common.{◌≡◌, refl, sym, ap, ◌∙◌, List, [], ◌∷◌, ◌++◌, map, append_assoc, length-append, Bool, true, false, inl, inr, Some, None, get_or, eqb, ℕ, zero, suc, ◌+◌, ◌≤◌, length, take, drop, length-drop, length-take, ◌-◌, arith}
-use Rattle.std.proofs.lemmas.List.{length-map, nil_from_length, take_all}
-use Rattle.std.specs.List.{position, position_or_len, slice_split}
-use Rattle.std.proofs.lemmas.List.Quantifiers.{position-Some}
+use Rattle.std.proofs.Common.{◌≡◌, refl, sym, ap, ◌∙◌, List, [], ◌∷◌, ◌++◌, map, Bool, true, false, inl, inr, Option, Some, None, Ok, Err, Bor, get_or, ℕ, zero, suc, ◌+◌, ◌≤◌, ◌<◌, min, length, take, drop, length-drop, length-take, length-append, append-nil, arith, MatchOption}
+use denote.Param.Members.{Mut}
+use Rattle.std.specs.Fn.{ComputesKey, CalledAt}
+use Rattle.std.specs.List.{IsFirstMatchOrLen, slice_split}
+use Rattle.std.specs.Slice.Iter.{split_inclusive_rest, split_inclusive_callee}
+use Rattle.std.specs.declared.slice.SplitInclusive.{SplitInclusive}
+use Rattle.std.proofs.lemmas.Iterator.{YieldsList}
+use Rattle.std.proofs.lemmas.Iterator.Splits.{YieldsList-from_shown_while}
+use Rattle.std.proofs.lemmas.Fn.{always_returns_same}
+use Rattle.std.proofs.Math.Decide.{dec_lt}
+use Rattle.std.proofs.Math.Seq.{take-append_seam, drop-append_seam}
+use Rattle.std.proofs.Math.ListN.{drop_of_length-le, get_or-eq_default}
+use Rattle.std.proofs.lemmas.List.{get_or_default, length-map, get_or-map, nil_from_length, take_all}
 use Rattle.std.proofs.lemmas.List.Sums.{position_or_len_is}
-use Rattle.std.proofs.Math.ListN.{drop_of_length-le}
-use Rattle.std.proofs.lemmas.Bool.{eqb-true, eqb-false}
 use Rattle.notation.specs.Lists.{count_before}
-use Rattle.laws.specs.Lists.{Every, every_append}
-use Rattle.text.specs.Text.{Appended}
-use Rattle.text.proofs.Appended.{appended_none, appended_length}
-use Rattle.record_fields.specs.Fields.{before, pieces}
-use Rattle.record_fields.proofs.Pieces.{count_before_nil, count_before_here, count_before_there, count_before_is, before_none, pieces_cons, parts_are}
-use Rattle.record_lines.specs.Lines.{line_of, faulty}
-use Rattle.record_texts.specs.Texts.{Line, line_feed, mark_length, lines, sound_lines, process_words, section_words, region_words, words_of}
-use Rattle.record_texts.proofs.Held.{words_nil, words_next}
+use Rattle.laws.specs.Choice.{by_test}
+use Rattle.record_fields.specs.Fields.{before, pieces, non_empty, fields}
+use Rattle.record_fields.proofs.Pieces.{count_before_nil, count_before_here, count_before_there, count_before_le, count_before_is, pieces_cons, pieces_length, parts_are}
+use Rattle.notation.specs.Choice.{choose}
+use Rattle.std.specs.Result.{result_err}
+use Rattle.record_lines.specs.declared.Fault.{Fault}
+use Rattle.record_lines.specs.Lines.{said_by, line_of, faulty}
+use Rattle.record_texts.specs.Texts.{Line, line_feed, mark_length, lines, sound_lines, fault_in, process_words, section_words, region_words, words_of}
+use Rattle.record_texts.specs.Keeps.{Keeps}
+use Rattle.record_texts.specs.declared.kept.Kept.{Kept}
+use Rattle.record_texts.proofs.Held.{Held, held_none, held_next}
 
--- BEFORE the first that is at fault
-before_here : (l : Line) (ls : List Line) → faulty l ≡ true → before faulty (l ∷ ls) ≡ []
-unfolding before
-before_here l ls e = rw (count_before_here faulty l ls e)
+-- COUNT BEFORE: a place up to which no element passes
+module _ {A : Type 0} (t : A → Bool) where
+  pub count_before_more : (l : List A) (k : ℕ) (d : A) → k ≤ count_before t l → k < length l → t (get_or l k d) ≡ false → k + 1 ≤ count_before t l
+  count_before_more [] k d p h e = absurd (omega arith)
+  count_before_more (x ∷ l) zero d p h e = omega (arith, count_before_there t x l e)
+  count_before_more (x ∷ l) (suc k) d p h e = by_test (λ c. t x ≡ c → suc k + 1 ≤ count_before t (x ∷ l)) (t x)
+      (λ _ f. absurd (omega (arith, count_before_here t x l f)))
+      (λ _ f. let n = count_before_there t x l f in omega (arith, count_before_more l k d (omega (arith, n)) (omega arith) e)) refl
 
-before_there : (l : Line) (ls : List Line) → faulty l ≡ false → before faulty (l ∷ ls) ≡ l ∷ before faulty ls
-unfolding before
-before_there l ls e = rw (count_before_there faulty l ls e)
+  pub count_before_at : (l : List A) (k : ℕ) (d : A) → k ≤ count_before t l → k < length l → t (get_or l k d) ≡ true → count_before t l ≡ k
+  count_before_at [] k d p h e = absurd (omega arith)
+  count_before_at (x ∷ l) zero d p h e = count_before_here t x l e
+  count_before_at (x ∷ l) (suc k) d p h e = by_test (λ c. t x ≡ c → count_before t (x ∷ l) ≡ suc k) (t x)
+      (λ _ f. absurd (omega (arith, count_before_here t x l f)))
+      (λ _ f. let n = count_before_there t x l f in omega (arith, n, count_before_at l k d (omega (arith, n)) (omega arith) e)) refl
 
-before_nil : before faulty [] ≡ []
-unfolding before
-before_nil = rw count_before_nil
+  -- what stands before an element stands before it in what ends with it
+  pub before_take : (l : List A) → before t (take (suc (count_before t l)) l) ≡ take (count_before t l) l
+  unfolding before
+  before_take [] = rw count_before_nil
+  before_take (x ∷ l) = by_test (λ c. t x ≡ c → take (count_before t (take (suc (count_before t (x ∷ l))) (x ∷ l))) (take (suc (count_before t (x ∷ l))) (x ∷ l)) ≡ take (count_before t (x ∷ l)) (x ∷ l)) (t x)
+      (λ _ f. rw (count_before_here t x l f, count_before_here t x [] f))
+      (λ _ f. rw (count_before_there t x l f, count_before_there t x (take (suc (count_before t l)) l) f) (ap (λ (m : List A). x ∷ m) (before_take l))) refl
 
-before_sound : (xs ys : List (List ℕ)) → Every (λ l. faulty (line_of l) ≡ false) xs → before faulty (map line_of ys) ≡ [] → before faulty (map line_of (xs ++ ys)) ≡ map line_of xs
-before_sound [] ys e h = h
-before_sound (x ∷ xs) ys e h = before_there (line_of x) _ e.0 ∙ ap (λ (ls : List Line). line_of x ∷ ls) (before_sound xs ys e.1 h)
+-- SPLIT INCLUSIVE: before what ends each part of std's stands a piece
+module _ {F : Type 0} (g : Mut F (Bor ℕ × Unit {0}) Bool) (p : ℕ → Bool) where
+  abbrev pub parts_from : SplitInclusive ℕ F → Option (Bor (List ℕ)) → SplitInclusive ℕ F → Type 0
+  parts_from s r t = MatchOption r ((length (split_inclusive_rest s) ≡ 0) × (t ≡ s)) (λ x.
+      (split_inclusive_rest s ≡ x.now ++ split_inclusive_rest t)
+      × ((i : ℕ) × (length x.now ≡ min (i + 1) (length (split_inclusive_rest s)))
+      × ((q : ℕ → Bool) → ComputesKey g q (split_inclusive_callee s) → ComputesKey g q (split_inclusive_callee t) × IsFirstMatchOrLen q (split_inclusive_rest s) i))
+      × (0 < length (split_inclusive_rest s)))
 
--- ONE KIND: the words of the first lines stand at the start of a list
-abbrev pub Held : (Line → List ℕ) → List (List ℕ) → List ℕ → List ℕ → ℕ → Type 0
-Held words ls xs ys n = Appended xs 0 (words_of words (map line_of ls)) ys n
+  first_end : (l : List ℕ) (i : ℕ) → IsFirstMatchOrLen p l i → min (i + 1) (length l) ≡ min (suc (count_before p l)) (length l)
+  first_end l i h = omega (
+    arith,
+    count_before_is p l,
+    position_or_len_is p l (min i (length l)) 0 (omega arith) (λ k m. h.0 k 0 (omega arith) (omega arith)) (λ m. let e : min i (length l) ≡ i = omega arith in rw e (h.1 (omega arith) 0)),
+  )
 
-held_none : (words : Line → List ℕ) (xs : List ℕ) → Held words [] xs xs 0
-held_none words xs = rw words_nil (appended_none xs 0 0 (omega arith))
+  -- the first part, and what is left
+  first_part : (l x rest : List ℕ) → l ≡ x ++ rest → length x ≡ min (suc (count_before p l)) (length l) → 0 < length l → pieces p l ≡ before p x ∷ pieces p rest
+  first_part l x rest e n h =
+      let c : ℕ = count_before p l in
+      let z : length l ≡ length x + length rest = ap length e ∙ length-append x rest in
+      let x_is : take (suc c) l ≡ x = elim (dec_lt c (length l)) [
+        | yes m ↦ let n : suc c ≡ length x = omega arith in ap (λ j. take j l) n ∙ ap (take (length x)) e ∙ take-append_seam x rest
+        | no m ↦ take_all (suc c) l (omega arith) ∙ e ∙ ap (λ r. x ++ r) (nil_from_length rest (omega arith)) ∙ append-nil x
+      ] in
+      let rest_is : drop (suc c) l ≡ rest = elim (dec_lt c (length l)) [
+        | yes m ↦ let n : suc c ≡ length x = omega arith in ap (λ j. drop j l) n ∙ ap (drop (length x)) e ∙ drop-append_seam x rest
+        | no m ↦ drop_of_length-le l {i = suc c} (omega arith) ∙ sym (nil_from_length rest (omega arith))
+      ] in
+      pieces_cons p l h ∙ rw rest_is (ap (λ (y : List ℕ). y ∷ pieces p rest) (sym (before_take p l) ∙ ap (before p) x_is))
 
-map_one : (ls : List (List ℕ)) (l : List ℕ) → map line_of (ls ++ (l ∷ [])) ≡ map line_of ls ++ (line_of l ∷ [])
-map_one [] l = refl
-map_one (x ∷ ls) l = ap (λ (m : List Line). line_of x ∷ m) (map_one ls l)
+  pub YieldsList-from_parts : {s : _} {f : F} (l : List ℕ) → split_inclusive_rest s ≡ l → split_inclusive_callee s ≡ f
+      → ((x : ℕ) (b : Bool) (q : F) → CalledAt g f x b q → (q ≡ f) × (b ≡ p x)) → YieldsList parts_from (λ x. before p x.now) s (pieces p l)
+  YieldsList-from_parts {s} {f} l e c tests =
+      rw (← e)
+      (YieldsList-from_shown_while parts_from (λ x. before p x.now) (λ t. pieces p (split_inclusive_rest t)) (λ t. ComputesKey g p (split_inclusive_callee t))
+      (λ t u h k. nothing (split_inclusive_rest t) k.0)
+      (λ t x u h k. let m = k.1.2 p h in (m.0, first_part (split_inclusive_rest t) x.now (split_inclusive_rest u) k.0 (k.1.1 ∙ first_end (split_inclusive_rest t) k.1.0 m.1) k.2))
+      s (rw c (always_returns_same g (λ a r. r ≡ p a.0.now) f (λ a r q k. let m = tests a.0.now r q (record { shown = a.0; shows = refl; called = k }) in (m.1, m.0)))))
+    where
+      nothing : (l : List ℕ) → length l ≡ 0 → length (pieces p l) ≡ 0
+      nothing l z = omega (arith, pieces_length p l)
 
-held_next : (words : Line → List ℕ) (ls : List (List ℕ)) (l : List ℕ) {xs ys zs : List ℕ} {m r : ℕ} → Held words ls xs ys m
-    → Appended ys m (words (line_of l)) zs r → Held words (ls ++ (l ∷ [])) xs zs r
-held_next words ls l p q = rw map_one (words_next words (map line_of ls) (line_of l) p q)
+-- WHAT THE LINES SAY
+abbrev pub said : List ℕ → List Line
+said t = map line_of (lines t)
 
--- ALL KINDS, after the first k lines; those of `rest` come next
-abbrev pub lines_in : List ℕ → List (List ℕ)
-lines_in t = pieces line_feed t
+pub few_lines : (t : List ℕ) → length (lines t) ≤ length t
+unfolding lines
+few_lines t = omega (arith, pieces_length line_feed (drop (mark_length t) t), length-drop (mark_length t) t)
 
-module _ (t ps ss rs : List ℕ) where
-  pub record Reading (rest : List ℕ) (k : ℕ) (ps' ss' rs' : List ℕ) (p s r : ℕ) : Type 0 where
-    pub passed : List (List ℕ)
-    pub count : length passed ≡ k
-    pub all : lines t ≡ passed ++ lines_in rest
-    pub few : k + length rest ≤ length t
-    pub sound : Every (λ l. faulty (line_of l) ≡ false) passed
-    pub processes : Held process_words passed ps ps' p
-    pub sections : Held section_words passed ss ss' s
-    pub regions : Held region_words passed rs rs' r
+pub line_nil : ◌≡◌ {A = Line} (line_of []) (Ok None)
+unfolding line_of said_by fields before pieces non_empty count_before choose
+line_nil = refl
 
-  pub reading_none : (rest : List ℕ) → rest ≡ drop (mark_length t) t → Reading rest 0 ps ss rs 0 0 0
-  unfolding lines
-  reading_none rest e = record {
-    passed = [];
-    count = refl;
-    all = rw e;
-    few = omega (arith, ap length e, length-drop (mark_length t) t);
-    sound = tt;
-    processes = held_none process_words ps;
-    sections = held_none section_words ss;
-    regions = held_none region_words rs;
+module _ (t : List ℕ) (ps ss rs : Kept) where
+  -- the first k lines are not at fault, and the words of their records are put
+  pub record Reading (k : ℕ) (ps' ss' rs' : Kept) : Type 0 where
+    pub sound : k ≤ count_before faulty (said t)
+    pub processes : Held process_words (said t) k ps ps'
+    pub sections : Held section_words (said t) k ss ss'
+    pub regions : Held region_words (said t) k rs rs'
+
+  pub reading_none : Reading 0 ps ss rs
+  reading_none = record {
+    sound = omega arith;
+    processes = held_none process_words (said t) ps;
+    sections = held_none section_words (said t) ss;
+    regions = held_none region_words (said t) rs;
   }
 
   -- what is read of a text, up to the first line that is at fault
-  abbrev pub Done : ℕ → List ℕ → List ℕ → List ℕ → ℕ → ℕ → ℕ → Type 0
-  Done k ps' ss' rs' p s r = (k ≡ length (sound_lines t))
-      × Appended ps 0 (words_of process_words (sound_lines t)) ps' p
-      × Appended ss 0 (words_of section_words (sound_lines t)) ss' s
-      × Appended rs 0 (words_of region_words (sound_lines t)) rs' r
+  abbrev pub Done : ℕ → Option Fault → Kept → Kept → Kept → Type 0
+  Done k f ps' ss' rs' = (k ≡ length (sound_lines t))
+      × (f ≡ fault_in t)
+      × Keeps ps (words_of process_words (sound_lines t)) ps'
+      × Keeps ss (words_of section_words (sound_lines t)) ss'
+      × Keeps rs (words_of region_words (sound_lines t)) rs'
 
-  module _ {rest : List ℕ} {k : ℕ} {ps' ss' rs' : List ℕ} {p s r : ℕ} (g : Reading rest k ps' ss' rs' p s r) where
-    reading_done : before faulty (map line_of (lines_in rest)) ≡ [] → Done k ps' ss' rs' p s r
-    unfolding sound_lines
-    reading_done h =
-        let e : sound_lines t ≡ map line_of g.passed = rw g.all (before_sound g.passed (lines_in rest) g.sound h) in
-        (sym (rw e (length-map g.passed line_of ∙ g.count)), rw e g.processes, rw e g.sections, rw e g.regions)
+  module _ {k : ℕ} {ps' ss' rs' : Kept} (g : Reading k ps' ss' rs') where
+    reading_done : count_before faulty (said t) ≡ k → (f : Option Fault) → f ≡ result_err (line_of (get_or (lines t) k [])) → Done k f ps' ss' rs'
+    unfolding sound_lines before fault_in
+    reading_done e f s =
+        let n : k ≡ length (sound_lines t) = omega (arith, g.sound, e, count_before_le faulty (said t), length-take (count_before faulty (said t)) (said t)) in (
+          n,
+          s ∙ ap (λ j. result_err (line_of (get_or (lines t) j []))) n,
+          rw e g.processes,
+          rw e g.sections,
+          rw e g.regions,
+        )
 
-    pub reading_end : eqb (length rest) 0 ≡ true → Done k ps' ss' rs' p s r
-    unfolding pieces
-    reading_end h = reading_done (rw (nil_from_length rest (eqb-true (length rest) 0 h)) before_nil)
+    pub reading_end : k ≡ length (lines t) → Done k None ps' ss' rs'
+    reading_end e = reading_done (omega (arith, g.sound, count_before_le faulty (said t), length-map (lines t) line_of)) None
+        (rw (get_or-eq_default (lines t) [] {n = k} (omega arith), line_nil) refl)
 
-    -- a list that gets no words stays
-    pub stays : (words : Line → List ℕ) {xs ys : List ℕ} {n : ℕ} → Held words g.passed xs ys n → Appended ys n [] ys n
-    stays words q = appended_none _ _ _ (omega (arith, q.end_is, appended_length q))
+    -- line k says x
+    module _ (h : k < length (lines t)) (line : List ℕ) (l : line ≡ get_or (lines t) k line) (x : Line) (e : x ≡ line_of line) where
+      said_is : get_or (said t) k x ≡ x
+      said_is = get_or-map line_of (lines t) k line x h ∙ ap line_of (sym l) ∙ sym e
 
-    -- the first line of `rest` says x
-    module _ (h : eqb (length rest) 0 ≡ false) (line : List ℕ) (l : line ≡ before line_feed rest) (x : Line) (e : x ≡ line_of line) where
-      first_is : lines_in rest ≡ line ∷ lines_in (drop (suc (count_before line_feed rest)) rest)
-      unfolding before
-      first_is = pieces_cons line_feed rest (omega (arith, eqb-false (length rest) 0 h)) ∙ rw (← l)
+      pub reading_fault : {f : Fault} → x ≡ Err f → Done k (Some f) ps' ss' rs'
+      reading_fault {f} z = reading_done (count_before_at faulty (said t) k x g.sound (omega (arith, length-map (lines t) line_of)) (rw (said_is, z))) (Some f)
+          (rw (get_or_default (lines t) k [] line h, ← l, ← e, z) refl)
 
-      pub reading_fault : faulty x ≡ true → Done k ps' ss' rs' p s r
-      reading_fault f = reading_done (rw first_is (before_here _ _ (rw e at f)))
-
-      pub reading_next : faulty x ≡ false → (after : List ℕ) → after ≡ drop (suc (count_before line_feed rest)) rest
-          → {ps'' ss'' rs'' : List ℕ} {p'' s'' r'' : ℕ}
-          → Appended ps' p (process_words x) ps'' p'' → Appended ss' s (section_words x) ss'' s'' → Appended rs' r (region_words x) rs'' r''
-          → Reading after (k + 1) ps'' ss'' rs'' p'' s'' r''
-      reading_next f after n a b c = record {
-        passed = g.passed ++ (line ∷ []);
-        count = length-append g.passed _ ∙ omega (arith, g.count);
-        all = g.all ∙ rw (first_is, append_assoc, n);
-        few = omega (arith, g.few, ap length n, length-drop (suc (count_before line_feed rest)) rest, eqb-false (length rest) 0 h);
-        sound = every_append _ g.passed _ g.sound (rw e at f, tt);
-        processes = held_next process_words g.passed _ g.processes (rw e at a);
-        sections = held_next section_words g.passed _ g.sections (rw e at b);
-        regions = held_next region_words g.passed _ g.regions (rw e at c);
-      }
-
--- THE FIRST LINE, by std's answer
-module _ (t : ℕ → Bool) (l : List ℕ) where
-  pub cut_some : (n : ℕ) → position t l ≡ Some n → take (length l - (n + 1)) (drop (n + 1) l) ≡ drop (suc (count_before t l)) l
-  cut_some n e =
-      let p = position-Some t l n 0 e in
-      let c : position_or_len t l ≡ n = position_or_len_is t l n 0 (omega arith) p.2 (λ _. p.1) in
-      let s : suc (count_before t l) ≡ n + 1 = omega (arith, count_before_is t l) in
-      take_all _ _ (omega (arith, length-drop (n + 1) l)) ∙ rw s
-
-  pub cut_none : position t l ≡ None → [] ≡ drop (suc (count_before t l)) l
-  unfolding before
-  cut_none e = sym (drop_of_length-le l {i = suc (count_before t l)} (omega (arith, ap length (before_none t l e), length-take (count_before t l) l)))
+      pub reading_next : faulty x ≡ false → {ps'' ss'' rs'' : Kept} → Keeps ps' (process_words x) ps'' → Keeps ss' (section_words x) ss'' → Keeps rs' (region_words x) rs'' → Reading (k + 1) ps'' ss'' rs''
+      reading_next f a b c =
+          let n : k < length (said t) = omega (arith, length-map (lines t) line_of) in
+          record {
+            sound = count_before_more faulty (said t) k x g.sound n (rw said_is f);
+            processes = held_next process_words (said t) x g.processes n (rw said_is a);
+            sections = held_next section_words (said t) x g.sections n (rw said_is b);
+            regions = held_next region_words (said t) x g.regions n (rw said_is c);
+          }
 
 -- A LINE BY ITS NUMBER: a part of no bytes at the end changes none
 get_end : (ps : List (List ℕ)) (n : ℕ) → get_or (ps ++ ([] ∷ [])) n [] ≡ get_or ps n []

@@ -1,5 +1,6 @@
 -- The records of a text, a line for each.
-use Rattle.std.specs.Prelude.{Bool, ◌&&◌, List, [], ◌∷◌, ◌++◌, map, ℕ, eqb, get_or, drop, Option, Some, None, Result, Ok, Err}
+use Rattle.std.specs.Prelude.{Bool, ◌&&◌, List, [], ◌∷◌, ◌++◌, map, ℕ, eqb, length, get_or, drop, Option, Some, None, Result, Ok, Err}
+use Rattle.std.specs.Result.{result_err}
 use Rattle.notation.specs.Choice.{choose}
 use Rattle.record_fields.specs.Fields.{before, pieces}
 use Rattle.record_lines.specs.declared.Record.{Record}
@@ -27,6 +28,10 @@ Line = Result (Option Record) Fault
 -- what the lines say, up to and without the first that is at fault
 unfoldable pub sound_lines : List ℕ → List Line
 sound_lines t = before faulty (map line_of (lines t))
+
+-- what is wrong with the first line that is at fault; none where none is
+unfoldable pub fault_in : List ℕ → Option Fault
+fault_in t = result_err (line_of (get_or (lines t) (length (sound_lines t)) []))
 
 -- RECORDS
 -- the words of a line's record, where it is of that kind

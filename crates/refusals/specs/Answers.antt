@@ -1,5 +1,5 @@
 -- What 01's definitions say of a call, from what it returns: a refusal's number, place and offset; of success number, place and offset 0.
-use Rattle.std.specs.Prelude.{ℕ, Option, Some, None, Result, Ok, Err}
+use Rattle.std.specs.Prelude.{ℕ, ◌%◌, Option, Some, None, Result, Ok, Err}
 use Rattle.rules.specs.Answers.{RecordCheck, Verdict, Answer, Written}
 use Rattle.rules.specs.Refusals.{record_check, refused, accepted}
 use Rattle.rules.specs.Load.{refusal_answer}
@@ -17,6 +17,10 @@ number_or_0 (Some r) = number_of r
 -- the check of one record
 abbrev pub check_of : RecordRefusal → RecordCheck
 check_of r = record_check (number_or_0 r.refusal) r.offset
+
+-- what a record draws, as a refusal of record i, its offset told in 32 bits
+unfoldable pub refused_at : RecordRefusal → ℕ → Option Refused
+refused_at r i = elim r.refusal [ None ↦ None | Some x ↦ Some (record { refusal = x; place = i; offset = r.offset % 0x1_0000_0000 }) ]
 
 -- a refusal's verdict
 abbrev pub refused_of : Refused → Verdict

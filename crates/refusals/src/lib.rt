@@ -3,25 +3,26 @@
 
 ghost use Rattle.std.specs.Prelude.{◌≡◌};
 ghost use Rattle.refusals.specs.Numbers.{number_of};
+ghost use Rattle.refusals.specs.Answers.{refused_at};
 
-#[derive(Clone, Copy)]
+#[derive(Clone, Copy, PartialEq, Eq, Debug)]
 pub enum Refusal {
-    RamUnfit,
-    BlockTooShort,
-    FormatUnknown,
-    CountsOutOfBounds,
-    LayoutNotTight,
-    ProcessUnfit,
-    SectionUnfit,
-    SectionMisplaced,
-    SectionPastFlash,
-    EntryPointOutside,
-    RegionUnfit,
-    RamTooSmall,
-    FlashUnfit,
+    RamUnfit = 1,
+    BlockTooShort = 2,
+    FormatUnknown = 3,
+    CountsOutOfBounds = 4,
+    LayoutNotTight = 5,
+    ProcessUnfit = 6,
+    SectionUnfit = 7,
+    SectionMisplaced = 8,
+    SectionPastFlash = 9,
+    EntryPointOutside = 10,
+    RegionUnfit = 11,
+    RamTooSmall = 12,
+    FlashUnfit = 13,
     // Of the block writer alone.
-    ListsUnfit,
-    BufferTooShort,
+    ListsUnfit = 21,
+    BufferTooShort = 22,
 }
 
 impl Refusal {
@@ -29,29 +30,13 @@ impl Refusal {
     pub fn number(self) -> u32
         ensures { result ≡ number_of self }
     {
-        match self {
-            Refusal::RamUnfit => 1,
-            Refusal::BlockTooShort => 2,
-            Refusal::FormatUnknown => 3,
-            Refusal::CountsOutOfBounds => 4,
-            Refusal::LayoutNotTight => 5,
-            Refusal::ProcessUnfit => 6,
-            Refusal::SectionUnfit => 7,
-            Refusal::SectionMisplaced => 8,
-            Refusal::SectionPastFlash => 9,
-            Refusal::EntryPointOutside => 10,
-            Refusal::RegionUnfit => 11,
-            Refusal::RamTooSmall => 12,
-            Refusal::FlashUnfit => 13,
-            Refusal::ListsUnfit => 21,
-            Refusal::BufferTooShort => 22,
-        }
+        self as u32
     }
 }
 
 // A refusal, its place, which is the record it was found at, counted from 0, and that record's byte offset in the block; both 0 where it
 // is of no record.
-#[derive(Clone, Copy)]
+#[derive(Clone, Copy, PartialEq, Eq, Debug)]
 pub struct Refused {
     pub refusal: Refusal,
     pub place: u32,
@@ -71,15 +56,30 @@ impl Refused {
     }
 }
 
-// What the check of one record gives: the refusal that it draws, if it draws one, and the record's byte offset in the block.
-#[derive(Clone, Copy)]
+// What the check of one record gives: the refusal that it draws, if it draws one, and the record's byte offset in the block, which
+// `record_check` of the rules has in both cases.
+#[derive(Clone, Copy, PartialEq, Eq, Debug)]
 pub struct RecordRefusal {
     pub refusal: Option<Refusal>,
     pub offset: usize,
 }
 
+impl RecordRefusal {
+    // The refusal of record `place`; none where none is drawn. The offset is told modulo 2^32.
+    #[tactic(auto, unfolding(crate::specs::Answers::refused_at))]
+    pub fn at(self, place: u32) -> Option<Refused>
+        ensures { result ≡ refused_at self place }
+    {
+        self.refusal.map(|refusal| Refused {
+            refusal,
+            place,
+            offset: (self.offset % 0x1_0000_0000) as u32,
+        })
+    }
+}
+
 // The pages of a load: taken, free, and the page tracker's.
-#[derive(Clone, Copy)]
+#[derive(Clone, Copy, PartialEq, Eq, Debug)]
 pub struct Boot {
     pub taken: u32,
     pub free: u32,

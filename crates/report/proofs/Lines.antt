@@ -1,6 +1,5 @@
 -- The lines of the listing, one after the other.
-use Rattle.std.proofs.Common.{◌≡◌, refl, sym, ap, subst, ◌∙◌, ◌≢◌, Bool, List, [], eq-eqb, ne_eqb}
-use Prim.Native.Nat.{ℕ, ◌+◌}
+use Rattle.std.proofs.Common.{◌≡◌, refl, sym, ap, subst, ◌∙◌, ◌≢◌, Bool, List, [], eq-eqb, ne_eqb, ℕ, ◌+◌}
 use Rattle.notation.specs.Lists.{gather}
 use Rattle.laws.specs.Lists.{gather_next}
 use Rattle.laws.specs.Choice.{choose_yes, choose_no}

@@ -1,8 +1,7 @@
 -- What the listing says of each process: the pages it owns of the order of pages, and its root.
-use Rattle.std.proofs.Common.{◌≡◌, refl, sym, ap, subst, ◌∙◌, ◌≢◌, Bool, true, false, List, arith, eqb, eq-eqb, ne_eqb, eqb-true, le-leb, ltb-false}
+use Rattle.std.proofs.lemmas.Bool.{eqb-false}
+use Rattle.std.proofs.Common.{◌≡◌, refl, sym, ap, subst, ◌∙◌, ◌≢◌, Bool, true, false, List, arith, eqb, eq-eqb, ne_eqb, eqb-true, le-leb, ltb-false, ℕ, suc, ◌+◌, ◌-◌, ◌≤◌}
 use Rattle.std.specs.Prelude.{Some}
-use Prim.Native.Nat.{ℕ, suc, ◌+◌, ◌-◌, ◌≤◌}
-use borrow.Author.Tests.{eqb-false}
 use Rattle.notation.specs.Choice.{choose}
 use Rattle.notation.specs.Lists.{tab, gather, count, sum}
 use Rattle.rules.specs.Answers.{Answer}

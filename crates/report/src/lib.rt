@@ -22,6 +22,7 @@ use lent::Image;
 use refusals::{Boot, Refused};
 use text::Out;
 use types::Area;
+use xip_sections::MarkedBlock;
 
 fn boot_line(out: &mut Out<'_>, pages: u64, free: u32)
     ensures { Puts out.old (boot_line pages free) out.new }
@@ -37,26 +38,26 @@ fn process_line(out: &mut Out<'_>, q: u32, pages: u64, root: u32)
     out.put(b"\n");
 }
 
-// The kernel's pages: what the users' sections leave of those taken. `xip` marks the sections that are used in place.
-fn kernel_pages(block: &[u8], xip: &[u8], taken: u32) -> u64
-    ensures { result ≡ taken - user_pages block.now (marked xip.now) (process_count block.now - 1) }
+// The kernel's pages: what the users' sections leave of those taken.
+fn kernel_pages(block: &MarkedBlock, taken: u32) -> u64
+    ensures { result ≡ taken - user_pages block.now.bytes.now (marked block.now.xip.now) (process_count block.now.bytes.now - 1) }
 {
     let mut left = u64::from(taken);
-    for i in 1..block_header::process_count(block) {
-        left = left.saturating_sub(order_places::process_pages(block, xip, i + 1));
+    for i in 1..block_header::process_count(block.bytes) {
+        left = left.saturating_sub(order_places::process_pages(block, i + 1));
     }
     left
 }
 
 // The pages of process q, where the kernel has `kernel`: a user has those that its sections take.
 #[tactic(auto, unfolding(notation::specs::Choice::choose))]
-fn pages_of(block: &[u8], xip: &[u8], kernel: u64, q: u32) -> u64
-    ensures { result ≡ choose (eqb q 1) kernel (process_pages block.now (marked xip.now) q) }
+fn pages_of(block: &MarkedBlock, kernel: u64, q: u32) -> u64
+    ensures { result ≡ choose (eqb q 1) kernel (process_pages block.now.bytes.now (marked block.now.xip.now) q) }
 {
     if q == 1 {
         kernel
     } else {
-        order_places::process_pages(block, xip, q)
+        order_places::process_pages(block, q)
     }
 }
 
@@ -74,9 +75,13 @@ fn process_lines(out: &mut Out<'_>, image: Image<'_>, xip: &[u8], ram: Area, ker
         × (marked xip.now ≡ xip_of (lent_image image)) × (kernel ≡ pages_of image.block.now (marked xip.now) (ram.length / 4096) 1) }
     ensures { Puts out.old (process_lines (lent_image image.entry).block (xip_of (lent_image image.entry)) (pages_in ram) (process_count (lent_image image.entry).block)) out.new }
 {
+    let block = MarkedBlock {
+        bytes: image.block,
+        xip,
+    };
     for i in 0..block_header::process_count(image.block) {
         let q = i + 1;
-        let pages = pages_of(image.block, xip, kernel, q);
+        let pages = pages_of(&block, kernel, q);
         process_line(out, q, pages, root_page(image, ram, q));
     }
 }
@@ -89,14 +94,18 @@ fn put_listing(out: &mut Out<'_>, image: Image<'_>, ram: Area, answer: Result<Bo
     let boot = match answer {
         Ok(boot) => boot,
         Err(e) => {
-            refusal_line::put_line(out, e.refusal.number(), e.place, e.offset);
+            refusal_line::put_line(out, e);
             return;
         }
     };
     boot_line(out, (ram.length / 4096) as u64, boot.free);
     let mut xip = [0u8; 64];
     xip_sections::mark_sections(image.block, image.flash.bytes, &mut xip);
-    let kernel = kernel_pages(image.block, &xip, boot.taken);
+    let block = MarkedBlock {
+        bytes: image.block,
+        xip: &xip,
+    };
+    let kernel = kernel_pages(&block, boot.taken);
     process_lines(out, image, &xip, ram, kernel);
 }
 

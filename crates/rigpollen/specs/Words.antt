@@ -1,5 +1,5 @@
 -- Answers as the words that C gets.
-use Rattle.std.specs.Prelude.{List, [], ◌∷◌, ℕ, ◌+◌, ◌%◌, eqb}
+use Rattle.std.specs.Prelude.{List, [], ◌∷◌, ℕ, ◌+◌, eqb}
 use Rattle.notation.specs.Choice.{choose}
 use Rattle.types.specs.declared.Area.{Area}
 use Rattle.rules.specs.Answers.{Answer, Written}
@@ -7,25 +7,27 @@ use Rattle.types.specs.declared.Rights.{Rights}
 use Rattle.types.specs.declared.Entry.{Entry}
 use Rattle.types.specs.declared.Entry.TheVariants.{Absent, Reserved, Pointer, Page}
 use Rattle.rules.specs.Lent.{Image, pages_in}
-use Rattle.rules.specs.Block.{entry_point_of}
 use Rattle.rules.specs.InPlace.{xip_of}
 use Rattle.rules.specs.Refusals.{verdict}
-use Rattle.rules.specs.Entries.{satp_of}
-use Rattle.rules.specs.Contents.{stack_pointer, process_word}
+use Rattle.rules.specs.Contents.{process_word}
 use Rattle.rules.specs.Load.{satp_word}
+use Rattle.refusals.specs.Numbers.{number_of}
 use Rattle.order_roots.specs.Roots.{is_process}
+use Rattle.rigpollen.specs.declared.NotStarted.{NotStarted}
+use Rattle.rigpollen.specs.declared.NotStarted.TheVariants.{Refused, NoProcess}
 
 -- the full answer: number, place, pages taken, pages free, tracker pages, offset
 abbrev pub answer_words : Answer → List ℕ
 answer_words a = a.number ∷ a.place ∷ a.taken ∷ a.free ∷ a.tracker ∷ a.offset ∷ []
 
--- the words of process q with its root at physical page P: satp, entry point, stack pointer
-unfoldable pub start_words : List ℕ → ℕ → ℕ → List ℕ
-start_words b q P = satp_of q P % 0x1_0000_0000 ∷ entry_point_of b q ∷ stack_pointer q ∷ []
-
 -- what a process starts with, for RAM that lies here: 0, the refusal's number, or 31 where there is no process q
 unfoldable pub process_number : Image → Area → ℕ → ℕ
 process_number x ram q = let v = verdict x ram in choose (eqb v.number 0) (choose (is_process x.block q) 0 31) v.number
+
+-- why a process does not start, as that number
+abbrev pub not_started_number : NotStarted → ℕ
+not_started_number (Refused e) = number_of e.refusal
+not_started_number NoProcess = 31
 
 -- its words of the process list, where that is 0
 unfoldable pub process_words : Image → Area → ℕ → List ℕ

@@ -1,4 +1,5 @@
-// The loader, the reader and the block writer as the entries for C have them; `rigpollen_c` hands each on to C.
+// The loader, the reader and the block writer as the entries for C have them: a number is returned, and words are put into what is lent.
+// `rigpollen_c` hands each on to C.
 #![tactic(auto)]
 
 ghost use Rattle.std.specs.Prelude.{[], ◌≡◌, ◌<◌, length, slice_index, MatchResult};
@@ -10,7 +11,8 @@ ghost use Rattle.rules.specs.Writer.{records_in, written, buffer_after};
 ghost use Rattle.lent.specs.Lent.{image as lent_image};
 ghost use Rattle.refusals.specs.Answers.{answer_of as full_answer_of, written_of};
 ghost use Rattle.stores.specs.Writes.{copied};
-ghost use Rattle.rigpollen.specs.Words.{answer_words, start_words, process_number, process_words, rights_word, entry_number, entry_words, written_words};
+ghost use Rattle.rigpollen.specs.Words.{answer_words, not_started_number, process_number, process_words, rights_word, entry_number, entry_words, written_words};
+ghost use Rattle.rigpollen.specs.declared.NotStarted.TheVariants.{Refused};
 
 use lent::{Image, Memory};
 use refusals::{Boot, Refused};
@@ -19,7 +21,35 @@ use types::{Area, Entry, PhysPage, Rights};
 // The number for a process that there is not.
 const NO_PROCESS: u32 = 31;
 
-// Puts words into a lent slice from its start on, as many as fit.
+// Why a process does not start: the block is refused, or it has no such process.
+#[derive(Clone, Copy, PartialEq, Eq, Debug)]
+enum NotStarted {
+    Refused(Refused),
+    NoProcess,
+}
+
+impl NotStarted {
+    // Its number for C.
+    fn number(self) -> u32
+        ensures { result ≡ not_started_number self }
+    {
+        match self {
+            NotStarted::Refused(e) => e.refusal.number(),
+            NotStarted::NoProcess => NO_PROCESS,
+        }
+    }
+}
+
+impl From<Refused> for NotStarted {
+    ghost from_gives = { λ e r. r ≡ Refused e };
+
+    fn from(e: Refused) -> NotStarted {
+        NotStarted::Refused(e)
+    }
+}
+
+// Puts words into a lent slice from its start on, as many as fit. (By an index: RV32's library has no `copy_from_slice`
+// and no method of a slice's iterator, D166. `stores` copies bytes alone.)
 fn put_words(to: &mut [u32], words: &[u32])
     ensures { to.new ≡ sets to.old 0 words.now }
 {
@@ -44,20 +74,8 @@ fn answer_words(answer: Result<Boot, Refused>) -> [u32; 6]
     ensures { result ≡ answer_words (full_answer_of answer) }
 {
     match answer {
-        Ok(
-            Boot {
-                taken,
-                free,
-                tracker,
-            },
-        ) => [0, 0, taken, free, tracker, 0],
-        Err(
-            Refused {
-                refusal,
-                place,
-                offset,
-            },
-        ) => [refusal.number(), place, 0, 0, 0, offset],
+        Ok(boot) => [0, 0, boot.taken, boot.free, boot.tracker, 0],
+        Err(e) => [e.refusal.number(), e.place, 0, 0, 0, e.offset],
     }
 }
 
@@ -68,26 +86,7 @@ fn written_words(answer: Result<u32, Refused>) -> [u32; 4]
 {
     match answer {
         Ok(length) => [0, 0, length, 0],
-        Err(
-            Refused {
-                refusal,
-                place,
-                offset,
-            },
-        ) => [refusal.number(), place, 0, offset],
-    }
-}
-
-// What is to be loaded, from what C lends.
-fn image<'a>(block: &'a [u8], flash: &'a [u8], flash_start: u32) -> Image<'a>
-    ensures { lent_image result ≡ image_of block.now flash_start flash.now }
-{
-    Image {
-        block,
-        flash: Memory {
-            start: flash_start,
-            bytes: flash,
-        },
+        Err(e) => [e.refusal.number(), e.place, 0, e.offset],
     }
 }
 
@@ -103,7 +102,7 @@ pub fn rigpollen_load(
     ensures { (result ≡ (answer_of (image_of block.now flash_start flash.now) (memory_of ram_start ram.old)).number)
         × (ram.new ≡ ram_after (image_of block.now flash_start flash.now) (memory_of ram_start ram.old)) }
 {
-    let image = image(block, flash, flash_start);
+    let image = Image::new(block, flash, flash_start);
     answer_words(loader::load(image, ram, ram_start))[0]
 }
 
@@ -121,7 +120,7 @@ pub fn rigpollen_answer(
         × (ram.new ≡ ram_after (image_of block.now flash_start flash.now) (memory_of ram_start ram.old))
         × (answer.new ≡ sets answer.old 0 (answer_words (answer_of (image_of block.now flash_start flash.now) (memory_of ram_start ram.old)))) }
 {
-    let image = image(block, flash, flash_start);
+    let image = Image::new(block, flash, flash_start);
     let full = loader::load(image, ram, ram_start);
     tell(answer, &answer_words(full))
 }
@@ -139,7 +138,7 @@ pub fn rigpollen_check(
     ensures { (result ≡ (answer_on (image_of block.now flash_start flash.now) (area_of ram_start ram_length)).number)
         × (answer.new ≡ sets answer.old 0 (answer_words (answer_on (image_of block.now flash_start flash.now) (area_of ram_start ram_length)))) }
 {
-    let image = image(block, flash, flash_start);
+    let image = Image::new(block, flash, flash_start);
     let ram = Area {
         start: ram_start,
         length: ram_length,
@@ -148,31 +147,15 @@ pub fn rigpollen_check(
     tell(answer, &answer_words(full))
 }
 
-// The three words of process q, whose root table is at `root`.
-fn start_words(block: &[u8], q: u32, root: PhysPage) -> [u32; 3]
-    ensures { result ≡ start_words block.now q root.0 }
-{
-    let process = block_records::read_process(block, q);
-    [
-        sv32_entries::satp_word(q, root),
-        process.entry_point,
-        block_records::stack_pointer(q),
-    ]
-}
-
-// What process q starts with: its three words; else the number of the refusal, or 31.
-fn process_start(image: Image<'_>, ram: Area, q: u32) -> Result<[u32; 3], u32>
+// What process q starts with: its three words.
+fn process_start(image: Image<'_>, ram: Area, q: u32) -> Result<[u32; 3], NotStarted>
     ensures { MatchResult result
         (λ words. (0 ≡ process_number (lent_image image.entry) ram q) × (words ≡ process_words (lent_image image.entry) ram q))
-        (λ number. (number ≡ process_number (lent_image image.entry) ram q) × ([] ≡ process_words (lent_image image.entry) ram q)) }
+        (λ e. (not_started_number e ≡ process_number (lent_image image.entry) ram q) × ([] ≡ process_words (lent_image image.entry) ram q)) }
 {
-    if let Err(e) = checks::check(image, ram) {
-        return Err(e.refusal.number());
-    }
-    match order_roots::find_root(image, ram, q) {
-        None => Err(NO_PROCESS),
-        Some(root) => Ok(start_words(image.block, q, root)),
-    }
+    checks::check(image, ram)?;
+    let root = order_roots::find_root(image, ram, q).ok_or(NotStarted::NoProcess)?;
+    Ok(loader::start_words(image.block, q, root))
 }
 
 // What a process starts with, where the block boots on RAM of `ram_length` bytes from `ram_start` on: its satp word, entry point and
@@ -190,7 +173,7 @@ pub fn rigpollen_process(
     ensures { (result ≡ process_number (image_of block.now flash_start flash.now) (area_of ram_start ram_length) process)
         × (words.new ≡ sets words.old 0 (process_words (image_of block.now flash_start flash.now) (area_of ram_start ram_length) process)) }
 {
-    let image = image(block, flash, flash_start);
+    let image = Image::new(block, flash, flash_start);
     let ram = Area {
         start: ram_start,
         length: ram_length,
@@ -200,7 +183,7 @@ pub fn rigpollen_process(
             put_words(words, &start);
             0
         }
-        Err(number) => number,
+        Err(e) => e.number(),
     }
 }
 

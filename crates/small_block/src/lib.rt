@@ -1,10 +1,13 @@
-// The small board of 01: its boot block, where its RAM starts, and how large its flash is.
+// The small board of 01: its boot block, where its RAM and its flash start, and how large its flash is.
 #![tactic(auto)]
 
 ghost use Rattle.std.specs.Prelude.{◌≡◌};
 ghost use Rattle.rules.specs.Examples.{board as boardOf, small_board};
 
 pub const START: u32 = 0x4000_0000;
+
+// Where flash starts; 01 leaves it open.
+pub const FLASH_START: u32 = 0x2000_0000;
 
 // In bytes; 01 leaves open what they are.
 pub const FLASH: usize = 320;

@@ -2,36 +2,16 @@
 // not absent, and the satp words. All is drawn from RAM by the reader, starting at the root table of process 2.
 #![tactic(auto)]
 
-use lent::{Image, Memory};
+use lent::Image;
 use loaded_board::Board;
-use page_allocator::physical;
-use small_block::START;
+use small_block::{FLASH_START, START};
 use std::io;
-use types::{Entry, PageRange, PhysPage, RamPage};
+use types::{Entry, PhysPage};
 
 // RAM's bytes, and its pages.
 const RAM: usize = 65536;
 
-const PAGES: u32 = 16;
-
-// Where flash starts.
-const FLASH_START: u32 = 0x2000_0000;
-
-// Loads the board, and answers the root table of process 2. The tables of the last process are the lowest pages taken, its root the
-// highest of them.
-fn load(image: Image<'_>, ram: &mut [u8]) -> PhysPage {
-    let free = match loader::load(image, ram, START) {
-        Ok(boot) => boot.free,
-        Err(_) => 0,
-    };
-    let tables = order_leaves::table_count(image.block, 2);
-    let range = PageRange {
-        base: START / 4096,
-        pages: PAGES,
-    };
-    let after_tables = free.saturating_add(tables);
-    physical(range, RamPage(after_tables.saturating_sub(1)))
-}
+const PAGES: usize = 16;
 
 // The satp words of process 1 and 2, in the process list, which a root table leads to.
 fn satp_words(board: &Board<'_>, root: PhysPage) -> (u32, u32) {
@@ -39,27 +19,49 @@ fn satp_words(board: &Board<'_>, root: PhysPage) -> (u32, u32) {
     (slices::word(list, 0), slices::word(list, 12))
 }
 
+// The root table that a satp word names: its page number is the word's low 22 bits.
+fn root_in(satp: u32) -> PhysPage {
+    PhysPage(satp % 0x40_0000)
+}
+
+// The root tables of process 1, the kernel, and process 2.
+#[derive(Clone, Copy)]
+struct Roots {
+    kernel: PhysPage,
+    user: PhysPage,
+}
+
 // Every use in the order of pages.
-fn uses(board: &Board<'_>, kernel: PhysPage, user: PhysPage) -> [(PhysPage, &'static str); 11] {
+fn uses(board: &Board<'_>, roots: Roots) -> [(Option<PhysPage>, &'static str); 11] {
     [
-        (board.page_at(user, 0x0001_0020), "section A"),
-        (board.page_at(user, 0x0002_0000), "section B"),
-        (board.page_at(kernel, 0xFFC0_0000), "kernel section"),
-        (board.page_at(kernel, 0xFFF4_0000), "tracker"),
-        (board.page_at(kernel, 0xFFF8_0000), "process list"),
-        (board.page_at(kernel, 0xFFF0_0000), "block copy"),
-        (kernel, "kernel root table"),
-        (board.leaf_at(kernel, 1023), "kernel leaf table"),
-        (user, "root table of process 2"),
-        (board.leaf_at(user, 0), "its leaf table for slot 0"),
-        (board.leaf_at(user, 511), "its leaf table for slot 511"),
+        (board.page_at(roots.user, 0x0001_0020), "section A"),
+        (board.page_at(roots.user, 0x0002_0000), "section B"),
+        (board.page_at(roots.kernel, 0xFFC0_0000), "kernel section"),
+        (board.page_at(roots.kernel, 0xFFF4_0000), "tracker"),
+        (board.page_at(roots.kernel, 0xFFF8_0000), "process list"),
+        (board.page_at(roots.kernel, 0xFFF0_0000), "block copy"),
+        (Some(roots.kernel), "kernel root table"),
+        (board.leaf_at(roots.kernel, 1023), "kernel leaf table"),
+        (Some(roots.user), "root table of process 2"),
+        (board.leaf_at(roots.user, 0), "its leaf table for slot 0"),
+        (
+            board.leaf_at(roots.user, 511),
+            "its leaf table for slot 511",
+        ),
     ]
+}
+
+fn print_uses(board: &Board<'_>, roots: Roots) -> io::Result<()> {
+    for (page, name) in uses(board, roots) {
+        board.print_use(page, name)?;
+    }
+    Ok(())
 }
 
 // The pages that the tracker calls free.
 fn print_free(board: &Board<'_>, root: PhysPage) -> io::Result<()> {
     let tracker = board.bytes_at(root, 0xFFF4_0000);
-    for (k, owner) in tracker.iter().take(PAGES as usize).enumerate() {
+    for (k, owner) in tracker.iter().take(PAGES).enumerate() {
         if *owner == 0 {
             println!(board.rt; "page {k}: free")?;
         }
@@ -72,26 +74,40 @@ fn print_table(board: &Board<'_>, table: PhysPage) -> io::Result<()> {
     let k = board.ram_page(table).0;
     for i in 0..1024 {
         let word = board.entry(table, i);
-        if !matches!(sv32_entries::decode(word), Entry::Absent) {
+        if sv32_entries::decode(word) != Entry::Absent {
             println!(board.rt; "page {k} entry {i}: {word:#010X}")?;
         }
     }
     Ok(())
 }
 
+fn tables(board: &Board<'_>, roots: Roots) -> Option<[PhysPage; 5]> {
+    Some([
+        roots.kernel,
+        board.leaf_at(roots.kernel, 1023)?,
+        roots.user,
+        board.leaf_at(roots.user, 0)?,
+        board.leaf_at(roots.user, 511)?,
+    ])
+}
+
+fn print_tables(board: &Board<'_>, roots: Roots) -> io::Result<()> {
+    let tables = tables(board, roots).ok_or_else(|| io::Error::other("no leaf table"))?;
+    for table in tables {
+        print_table(board, table)?;
+    }
+    Ok(())
+}
+
 fn print_board(board: &Board<'_>, root: PhysPage) -> io::Result<()> {
     let (first, second) = satp_words(board, root);
-    let kernel = PhysPage(first % 0x40_0000);
-    let user = PhysPage(second % 0x40_0000);
-    for (page, name) in uses(board, kernel, user) {
-        board.print_use(page, name)?;
-    }
+    let roots = Roots {
+        kernel: root_in(first),
+        user: root_in(second),
+    };
+    print_uses(board, roots)?;
     print_free(board, root)?;
-    print_table(board, kernel)?;
-    print_table(board, board.leaf_at(kernel, 1023))?;
-    print_table(board, user)?;
-    print_table(board, board.leaf_at(user, 0))?;
-    print_table(board, board.leaf_at(user, 511))?;
+    print_tables(board, roots)?;
     println!(board.rt; "satp of process 1: {first:#010X}")?;
     println!(board.rt; "satp of process 2: {second:#010X}")
 }
@@ -99,22 +115,12 @@ fn print_board(board: &Board<'_>, root: PhysPage) -> io::Result<()> {
 fn main(rt: HostRuntime) -> io::Result<()> {
     let block = small_block::block();
     let flash = [0u8; small_block::FLASH];
-    let image = Image {
-        block: &block,
-        flash: Memory {
-            start: FLASH_START,
-            bytes: &flash,
-        },
-    };
+    let image = Image::new(&block, &flash, FLASH_START);
     let mut ram = buffers::zeros::<RAM>();
-    let root = load(image, &mut ram);
-    let board = Board {
-        ram: Memory {
-            start: START,
-            bytes: &ram,
-        },
-        flash: image.flash,
-        rt: &rt,
-    };
+    let loaded = Board::load(image, &mut ram, START, &rt);
+    let board = loaded.map_err(|_| io::Error::other("the board is refused"))?;
+    let root = board
+        .root(2)
+        .ok_or_else(|| io::Error::other("no root table"))?;
     print_board(&board, root)
 }

@@ -1,11 +1,14 @@
 -- Writes to a stretch of a list: what a loop that writes has done so far, and the definitions of specs/Writes.antt as such writes.
-use Rattle.std.specs.Prelude.{◌≡◌, refl, Bool, true, false, ◌&&◌, List, ℕ, ◌+◌, ◌-◌, ◌≤◌, ◌<◌, min, max, leb, ltb, length, get_or, take, drop}
-use Rattle.std.proofs.Common.{sym, ◌∙◌, arith, set, length-set, length-take, length-drop, length-take-le, get_or-take, get_or-drop, ext_get_or, lt-ltb, le-ltb, le-leb}
+use Rattle.std.specs.Prelude.{◌≡◌, refl, Bool, true, false, ◌&&◌, List, ℕ, ◌+◌, ◌-◌, ◌≤◌, ◌<◌, min, leb, ltb, length, get_or, take, drop}
+use Rattle.std.proofs.Common.{sym, ◌∙◌, arith, rules, replicate, set, length-set, length-take, length-drop, length-take-le, get_or-take, get_or-drop, ext_get_or, lt-ltb, le-ltb, le-leb}
 use Rattle.std.proofs.Math.Nat.{sub-zero}
 use Rattle.std.proofs.Math.Decide.{dec_lt, ℕ_discrete}
 use Rattle.std.proofs.Math.ListN.{get_or-eq_default}
 use Rattle.std.proofs.Math.Seq.{get_or-set_same, get_or-set_other, take-length}
+use Rattle.std.proofs.lemmas.List.{places}
+use borrow.Rule.Slice.PartMut.{put_mid}
 use Rattle.std.proofs.lemmas.Bool.{lt-leb}
+use Rattle.std.proofs.Math.Bool.{and-false}
 use Rattle.notation.specs.Choice.{choose}
 use Rattle.notation.specs.Lists.{tab}
 use Rattle.laws.specs.Choice.{choose_yes, choose_no}
@@ -128,6 +131,18 @@ chosen_written f {a} {b} d {t} r = record {
 pub written_all : {f : ℕ → ℕ} {d₀ d : List ℕ} {i : ℕ} → Written f 0 i d₀ d → length d₀ ≤ i → d ≡ tab (length d₀) f
 written_all {d₀ = d₀} {d} w h = tab_by (length d₀) _ 0 d w.size (λ k l. w.inside k (omega arith) (omega arith) l)
 
+-- A PART FILLED: the elements from a up to e, by the library's `fill`
+pub part_filled : (v a e : ℕ) (d ys : List ℕ) → ys ≡ replicate (length (take (e - a) (drop a d))) v → a ≤ e → e ≤ length d → Written (λ k. v) a e d (put_mid a (e - a) d ys)
+part_filled v a e d ys n h l = rw n (record {
+  size = search (rules, places);
+  inside = λ k m n o. search (rules, places);
+  below = λ k m. search (rules, places);
+  above = λ k m. search (rules, places);
+})
+
+pub all_filled : (v : ℕ) (d : List ℕ) {ys : List ℕ} → ys ≡ replicate (length d) v → ys ≡ tab (length d) (λ k. v)
+all_filled v d n = rw n (tab_by (length d) _ 0 (replicate (length d) v) (search (rules, places)) (λ k h. search (rules, places)))
+
 -- COPIED
 -- index k of a copy of s to index `at`
 abbrev pub copy_of : ℕ → List ℕ → ℕ → ℕ
@@ -194,12 +209,12 @@ copied_next {d₀} {d} {e} {at} i end s w ee h l = written_then w (written_same 
     v = rw (ee, ← z) (copied_written d (at + i) t)
 
 -- FILLED
-pub filled_is : {d₀ d : List ℕ} {from i : ℕ} (to v : ℕ) → Written (λ k. v) from i d₀ d → i ≡ max from (min to (length d₀)) → d ≡ filled d₀ from to v
+pub filled_is : {d₀ d : List ℕ} {a e : ℕ} (from to v : ℕ) → Written (λ k. v) a e d₀ d → e ≡ min to (length d₀) → a ≡ min from e → d ≡ filled d₀ from to v
 unfolding filled
-filled_is {d₀} {from = from} to v w e = chosen_is w (record {
-  hit = λ k h l m. rw (le-leb from k l, lt-ltb k to (omega arith));
-  low = λ k h l. rw (lt-leb from k l);
-  high = λ k h l. rw (le-leb from k (omega arith), le-ltb k to (omega arith));
+filled_is from to v w h l = chosen_is w (record {
+  hit = λ k m n o. rw (le-leb from k (omega arith), lt-ltb k to (omega arith));
+  low = λ k m n. rw (lt-leb from k (omega arith));
+  high = λ k m n. rw (le-ltb k to (omega arith), and-false);
 })
 
 pub filled_written : (d : List ℕ) (from to v : ℕ) → from ≤ to → Written (λ k. v) from to d (filled d from to v)

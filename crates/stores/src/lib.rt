@@ -5,13 +5,11 @@ ghost use Rattle.std.specs.Prelude.{◌≡◌, ◌+◌, ◌≤◌, length, take}
 ghost use Rattle.notation.specs.Lists.{tab};
 ghost use Rattle.stores.specs.Writes.{copied, filled};
 
-// Every byte becomes 0. (`fill` of bytes has a form that tools/rv32-forms does not know.)
+// Every byte becomes 0.
 pub fn clear(s: &mut [u8])
     ensures { s.new ≡ tab (length s.old) (λ k. 0) }
 {
-    for byte in s {
-        *byte = 0;
-    }
+    s.fill(0);
 }
 
 // The bytes that are copied at a time.
@@ -46,7 +44,8 @@ pub fn copy_in(to: &mut [u8], at: usize, from: &[u8])
 {
     let n = from.len().min(to.len().saturating_sub(at));
     let mut start = 0;
-    // A while: by `step_by` a load of the large board takes 40 % more instructions (`bench/boot --instructions`).
+    // A while: it is small enough to be inlined where records are read. By `from[..n].chunks(CHUNK)` a load for 15 users of one byte takes
+    // three quarters more instructions (docs/DESIGN-PASS.md).
     while start < n {
         let end = n.min(start + CHUNK);
         copy_chunk(to, at + start, &from[start..end]);
@@ -58,9 +57,9 @@ pub fn copy_in(to: &mut [u8], at: usize, from: &[u8])
 pub fn fill(bytes: &mut [u8], from: usize, to: usize, value: u8)
     ensures { bytes.new ≡ filled bytes.old from to value }
 {
-    for i in from..to.min(bytes.len()) {
-        bytes[i] = value;
-    }
+    let end = to.min(bytes.len());
+    let start = from.min(end);
+    bytes[start..end].fill(value);
 }
 
 // Copies `from` to index `at` of `to`, as many bytes as fit; the others become 0.

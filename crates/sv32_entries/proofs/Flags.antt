@@ -1,9 +1,9 @@
 -- The flags of an entry, by the rules' arithmetic.
+use Rattle.std.proofs.Math.Decide.{ℕ_discrete}
 use Rattle.std.proofs.Common.{◌≡◌, ℕ, ◌*◌, ◌/◌, ◌%◌, ◌^◌, Bool, true, false, bit_and, arith, refl, ◌∙◌, not, eqb, eq-eqb, ne_eqb}
 use Rattle.std.proofs.lemmas.Nat.Bits.{and_high, and_pow}
 use Rattle.std.proofs.lemmas.Nat.{pow_pos}
 use Rattle.std.specs.Int.{from_bool}
-use native.Mathlib.Decide.{ℕ_discrete}
 use Rattle.notation.specs.Choice.{choose}
 
 -- written

@@ -9,7 +9,8 @@ use lent::Memory;
 use sv32_reader::page_in;
 use types::{Entry, PhysPage};
 
-// A page's bytes as a part of RAM or of flash: RAM's if the page lies wholly in RAM, else flash's; empty where it lies wholly in neither.
+// A page's bytes as a part of RAM or of flash: RAM's if the page lies wholly in RAM, else flash's; empty where it lies wholly in neither, as
+// 01 names it for 02's A6. (RAM and flash are two parameters here as in the rules' `page_bytes`, `page_at` and `seen_from`.)
 pub fn page_part<'a>(ram: Memory<'a>, flash: Memory<'a>, page: PhysPage) -> &'a [u8]
     ensures { result.now ≡ page_bytes (memory ram.entry) (memory flash.entry) page.0 }
 {

@@ -1,8 +1,8 @@
 -- A page of a memory, and an entry of a table that is such a page.
+use Rattle.std.proofs.lemmas.Bool.{lt-leb}
 use Rattle.std.proofs.Common.{◌≡◌, ℕ, ◌+◌, ◌-◌, ◌*◌, ◌≤◌, ◌<◌, List, true, false, length, get_or, take, drop, length-drop, arith, refl, sym, ◌∙◌, inl, inr, ap, Option, None, Some, IfSome, is_some, Bor, le-leb}
 use Rattle.std.specs.List.{PartBy}
 use Rattle.std.proofs.Math.Seq.{length-take-le, get_or-take, get_or-drop}
-use borrow.Author.Tests.{lt-leb}
 use Rattle.notation.specs.Choice.{choose}
 use Rattle.notation.specs.Lists.{tab}
 use Rattle.notation.specs.Words.{word}

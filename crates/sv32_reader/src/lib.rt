@@ -71,7 +71,7 @@ fn walk_page(ram: Memory<'_>, root: PhysPage, page: VirtPage) -> Entry
     requires { page.0 < 0x10_0000 }
     ensures { result ≡ walk (memory ram.entry) root.0 (4096 * page.0) }
 {
-    let entry = table_entry(ram, root, page.0 / TABLE_ENTRIES);
+    let entry = table_entry(ram, root, page.slot());
     root_answer(ram, page.0 % TABLE_ENTRIES, entry)
 }
 

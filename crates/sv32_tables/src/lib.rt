@@ -12,36 +12,46 @@ use types::{PhysPage, Rights, TABLE_ENTRIES, VirtPage};
 // The virtual page where every stack ends.
 const STACK_END: usize = 0x8_0000;
 
-// The page n pages above page `first`, where they rise, else below it, or page 0 once they run out. A number is taken modulo 0x400000.
-fn nth_page(first: PhysPage, rises: bool, n: usize) -> PhysPage
-    requires { n < 0x1_0000_0000_0000 }
-    ensures { result.0 % 0x40_0000 ≡ nth_page first.0 rises n % 0x40_0000 }
-{
-    let start = first.0 as usize;
-    if rises {
-        return PhysPage(((start + n) % 0x40_0000) as u32);
-    }
-    PhysPage(start.saturating_sub(n) as u32)
+// Physical pages one after the other: `first`, and then each next higher one where they rise, else each next lower.
+#[derive(Clone, Copy, PartialEq, Eq, Debug)]
+pub struct Run {
+    pub first: PhysPage,
+    pub rises: bool,
 }
 
-// Maps the virtual pages `from` to `to` that lie in the leaf table for root slot `slot`: `from` to physical page `first`,
-// each next one to the next higher page where they rise, else to the next lower.
+impl Run {
+    // The page n pages after the first, or page 0 once they run out. A number is taken modulo 0x400000.
+    #[tactic(auto, unfolding(crate::specs::Filled::nth_page, notation::specs::Choice::choose))]
+    fn nth(self, n: usize) -> PhysPage
+        requires { n < 0x1_0000_0000_0000 }
+        ensures { result.0 % 0x40_0000 ≡ nth_page self.first.0 self.rises n % 0x40_0000 }
+    {
+        let start = self.first.0 as usize;
+        if self.rises {
+            PhysPage(((start + n) % 0x40_0000) as u32)
+        } else {
+            PhysPage(start.saturating_sub(n) as u32)
+        }
+    }
+}
+
+// Maps the virtual pages `from` to `to` that lie in the leaf table for root slot `slot`, to the pages of a run. (By an index: RV32's library
+// has no method of a slice's iterator, D166.)
 pub fn map_pages(
     entries: &mut [u32],
     slot: u32,
     from: VirtPage,
     to: VirtPage,
-    first: PhysPage,
-    rises: bool,
+    run: Run,
     rights: Rights,
 )
-    ensures { entries.new ≡ pages_mapped entries.old slot from.0 to.0 first.0 rises rights }
+    ensures { entries.new ≡ pages_mapped entries.old slot from.0 to.0 run.first.0 run.rises rights }
 {
     let base = (TABLE_ENTRIES as usize) * (slot as usize);
     let start = from.0 as usize;
     let past = (to.0 as usize + 1).saturating_sub(base);
     for i in start.saturating_sub(base)..past.min(entries.len()) {
-        entries[i] = page_entry(nth_page(first, rises, base + i - start), rights);
+        entries[i] = page_entry(run.nth(base + i - start), rights);
     }
 }
 

@@ -1,9 +1,9 @@
 -- Texts put one after the other.
 use Rattle.std.proofs.Common.{◌≡◌, refl, sym, ap, ◌∙◌, List, [], ◌++◌, arith, ltb, length, get_or, length-append, ext_get_or, lt-ltb, le-ltb, le-leb, ℕ, ◌+◌, ◌-◌, ◌^◌, ◌≤◌, ◌<◌, min}
-use native.Mathlib.Nat.{pow-le-pow_right}
-use native.Mathlib.Decide.{dec_lt}
-use lib.ListN.{get_or-append}
-use borrow.Author.Tests.{lt-leb}
+use Rattle.std.proofs.Math.Nat.{pow-le-pow_right}
+use Rattle.std.proofs.Math.Decide.{dec_lt}
+use Rattle.std.proofs.Math.ListN.{get_or-append}
+use Rattle.std.proofs.lemmas.Bool.{lt-leb}
 use Rattle.io.specs.Digits.{last_digits, IsDigitCount}
 use Rattle.laws.specs.Choice.{choose_yes, choose_no}
 use Rattle.laws.specs.Lists.{tab_length, tab_get, append_get_right, first_at_tab}
@@ -13,19 +13,19 @@ use Rattle.text.specs.Puts.{Puts}
 use Rattle.text.specs.declared.Out.{Out}
 
 -- COPIED
-copied_length : (d : List ℕ) (at : ℕ) (s : List ℕ) → length (copied d at s) ≡ length d
+pub copied_length : (d : List ℕ) (at : ℕ) (s : List ℕ) → length (copied d at s) ≡ length d
 unfolding copied
 copied_length d at s = tab_length (length d) _
 
-copied_below : (d : List ℕ) (at : ℕ) (s : List ℕ) (k : ℕ) → k < length d → k < at → get_or (copied d at s) k 0 ≡ get_or d k 0
+pub copied_below : (d : List ℕ) (at : ℕ) (s : List ℕ) (k : ℕ) → k < length d → k < at → get_or (copied d at s) k 0 ≡ get_or d k 0
 unfolding copied
 copied_below d at s k h l = tab_get (length d) _ k 0 h ∙ choose_no _ _ (rw (lt-leb at k l))
 
-copied_inside : (d : List ℕ) (at : ℕ) (s : List ℕ) (k : ℕ) → k < length d → at ≤ k → k < at + length s → get_or (copied d at s) k 0 ≡ get_or s (k - at) 0
+pub copied_inside : (d : List ℕ) (at : ℕ) (s : List ℕ) (k : ℕ) → k < length d → at ≤ k → k < at + length s → get_or (copied d at s) k 0 ≡ get_or s (k - at) 0
 unfolding copied
 copied_inside d at s k h l m = tab_get (length d) _ k 0 h ∙ choose_yes _ _ (rw (le-leb at k l, lt-ltb k (at + length s) m))
 
-copied_above : (d : List ℕ) (at : ℕ) (s : List ℕ) (k : ℕ) → k < length d → at + length s ≤ k → get_or (copied d at s) k 0 ≡ get_or d k 0
+pub copied_above : (d : List ℕ) (at : ℕ) (s : List ℕ) (k : ℕ) → k < length d → at + length s ≤ k → get_or (copied d at s) k 0 ≡ get_or d k 0
 unfolding copied
 copied_above d at s k h l = tab_get (length d) _ k 0 h ∙ choose_no _ _ (let m : at ≤ k = omega arith in rw (le-leb at k m, le-ltb k (at + length s) l))
 
@@ -96,6 +96,10 @@ puts_then p q = record {
   same_buffer = q.same_buffer ∙ p.same_buffer;
   appended = appended_then p.appended q.appended;
 }
+
+-- in a buffer with no text in it yet
+pub puts_all : {old new : Out} {xs t : List ℕ} → old.buffer.now ≡ xs → old.end ≡ 0 → Puts old t new → Appended xs 0 t new.buffer.now new.end
+puts_all e z p = rw (e, z) at p.appended
 
 -- NUMERAL
 places_is : (b n k : ℕ) → 0 < b → n < b ^ 20 → IsDigitCount b 1 n k → places b n ≡ k

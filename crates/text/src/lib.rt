@@ -4,7 +4,8 @@
 ghost use Rattle.std.specs.Prelude.{◌≡◌, ◌≤◌, length};
 ghost use Rattle.text.specs.Text.{numeral, two_numbers};
 
-// A lent buffer, and where the text in it ends: what is put begins there.
+// A lent buffer, and where the text in it ends: what is put begins there. (Numbers are put by functions of its own and not by std's `write!`,
+// which promises its text only where all of it fits: these promise what a buffer holds that cuts it, `Puts`.)
 #[derive(Drop)]
 pub struct Out<'a> {
     pub buffer: &'a mut [u8],
@@ -28,14 +29,13 @@ impl<'a> Out<'a> {
     pub fn put(&mut self, text: &[u8])
         ensures { Puts self.old text.now self.new }
     {
-        let at = self.end;
-        let room = self.buffer.len() - at;
-        self.end = at + text.len().min(room);
-        let buffer = &mut *self.buffer;
-        stores::copy_in(buffer, at, text);
+        let room = self.buffer.len() - self.end;
+        stores::copy_in(self.buffer, self.end, text);
+        self.end += text.len().min(room);
     }
 
     // A number in decimal.
+    #[tactic(auto, using(crate::proofs::Appended::numeral_is))]
     pub fn put_decimal(&mut self, n: u64)
         ensures { Puts self.old (numeral 10 n) self.new }
     {
@@ -45,6 +45,7 @@ impl<'a> Out<'a> {
     }
 
     // A number in hexadecimal, small letters, no leading zeros.
+    #[tactic(auto, using(crate::proofs::Appended::numeral_is))]
     pub fn put_hex(&mut self, n: u64)
         ensures { Puts self.old (numeral 16 n) self.new }
     {

@@ -1,6 +1,5 @@
 -- The promises of one call and of two, from the theorems.
-use Rattle.std.proofs.Common.{◌≡◌, Option, Some, None, Result, sym, ap, ◌∙◌, true, ◌&&◌, List, eqb, eq-eqb, eqb-true, le-leb}
-use Prim.Native.Nat.{ℕ, ◌≤◌, ◌<◌}
+use Rattle.std.proofs.Common.{◌≡◌, Option, Some, None, Result, sym, ap, ◌∙◌, true, ◌&&◌, List, eqb, eq-eqb, eqb-true, le-leb, ℕ, ◌≤◌, ◌<◌}
 use Rattle.notation.specs.Choice.{choose}
 use Rattle.types.specs.declared.PhysPage.{PhysPage}
 use Rattle.rules.specs.Answers.{Answer}

@@ -21,7 +21,8 @@ pub fn put_word(s: &mut [u8], at: usize, w: u32)
     }
 }
 
-// Stores words one after the other from the start of `to` on, little-endian, as many bytes as fit; the others stay.
+// Stores words one after the other from the start of `to` on, little-endian, as many bytes as fit; the others stay. (By an index: RV32's
+// library has no method of a slice's iterator, D166.)
 pub fn words_in(to: &mut [u8], words: &[u32])
     ensures { to.new ≡ with_words to.old words.now }
 {

@@ -1,8 +1,10 @@
 // P1 to P12 of 01: the small board with one change each, listed.
 #![tactic(auto)]
 
-use lent::{Image, Memory};
-use small_block::FLASH;
+ghost use Rattle.std.specs.Prelude.{◌≤◌};
+
+use lent::Image;
+use small_block::{FLASH, FLASH_START};
 use std::io;
 
 // The small board's entry point of process 2, the address of B and the start of the region.
@@ -15,37 +17,26 @@ const REGION: u32 = 0xF000_0000;
 // The kind word of a process of kind 0 with a stack of four pages.
 const FOUR_PAGES: u32 = 0x0400;
 
-// Where flash starts.
-const FLASH_START: u32 = 0x2000_0000;
-
 // RAM's bytes at most: 16 pages.
 const RAM: usize = 65536;
 
-// What is loaded: the block, and flash.
-fn image<'a>(block: &'a [u8], flash: &'a [u8]) -> Image<'a> {
-    Image {
-        block,
-        flash: Memory {
-            start: FLASH_START,
-            bytes: flash,
-        },
-    }
-}
-
-// Prints the name and the listing. Flash has 320 bytes at most, RAM 16 pages.
+// Prints the name and the listing.
 fn list_on(
     rt: &impl Print,
     name: &str,
     block: &[u8],
     flash_bytes: usize,
     pages: usize,
-) -> io::Result<()> {
+) -> io::Result<()>
+    requires flash { flash_bytes ≤ FLASH }
+    requires ram { pages ≤ 16 }
+{
     let flash = [0u8; FLASH];
     let mut ram = buffers::zeros::<RAM>();
     let mut text = [0u8; 1024];
     let n = report::load_listing(
-        image(block, &flash[..flash_bytes.min(FLASH)]),
-        &mut ram[..4096 * pages.min(16)],
+        Image::new(block, &flash[..flash_bytes], FLASH_START),
+        &mut ram[..4096 * pages],
         small_block::START,
         &mut text,
     );

@@ -27,12 +27,17 @@ const HELP: &str = "write_block RECORDS BLOCK\n\
     # starts a comment. Lines of the three kinds may be mixed, and keep their order within a kind.\n\
     With -h or --help alone it prints this.\n";
 
-// All that was written to the file is kept; else why not. What is no regular file has nothing to keep.
-fn closed(file: fs::File) -> io::Result<()> {
-    match file.sync_all() {
+// What was done to a file; that it is no regular file counts as done.
+fn unless_irregular(done: io::Result<()>) -> io::Result<()> {
+    match done {
         Err(error) if error.kind() == ErrorKind::InvalidInput => Ok(()),
-        kept => kept,
+        done => done,
     }
+}
+
+// All that was written to the file is kept; else why not.
+fn closed(file: fs::File) -> io::Result<()> {
+    unless_irregular(file.sync_all())
 }
 
 // Writes the block to a file that was just made; where that fails the file is removed.
@@ -44,18 +49,16 @@ fn write_new(rt: &HostRuntime, mut file: fs::File, name: &str, block: &[u8]) -> 
     closed(file)
 }
 
-// Cuts the file to so many bytes. What is no regular file stays as long as it is.
-fn cut(file: &fs::File, length: usize) -> io::Result<()> {
-    match file.set_len(length.min(BLOCK) as u64) {
-        Err(error) if error.kind() == ErrorKind::InvalidInput => Ok(()),
-        done => done,
-    }
+// Cuts the file to so many bytes.
+fn cut(file: &fs::File, length: u64) -> io::Result<()> {
+    unless_irregular(file.set_len(length))
 }
 
 // Writes the block over a file of `old` bytes, whose position is its end. What is longer than the file is written first: where
 // there is no space for it, the file is cut to its old bytes.
-fn write_over(file: &mut fs::File, block: &[u8], old: usize) -> io::Result<()> {
-    let (head, tail) = block.split_at(old.min(block.len()));
+fn write_over(file: &mut fs::File, block: &[u8], old: u64) -> io::Result<()> {
+    let new = block.len() as u64;
+    let (head, tail) = block.split_at(old.min(new) as usize);
     if let Err(error) = file.write_all(tail) {
         let _ = cut(file, old);
         return Err(error);
@@ -63,19 +66,18 @@ fn write_over(file: &mut fs::File, block: &[u8], old: usize) -> io::Result<()> {
     if old == 0 {
         return Ok(());
     }
-    file.seek(SeekFrom::Start(0))?;
+    file.rewind()?;
     file.write_all(head)?;
-    if old <= block.len() {
+    if old <= new {
         return Ok(());
     }
-    cut(file, block.len())
+    cut(file, new)
 }
 
 // Writes the block to a file that there is. One that has no end, as a pipe, counts as one of no bytes.
 fn write_existing(mut file: fs::File, block: &[u8]) -> io::Result<()> {
     let end = file.seek(SeekFrom::End(0)).unwrap_or(0);
-    // A block is shorter than that, so a longer file counts as one of 4,096 bytes.
-    write_over(&mut file, block, end.min(4096) as usize)?;
+    write_over(&mut file, block, end)?;
     closed(file)
 }
 
@@ -101,6 +103,7 @@ fn say(program: Program<'_>, line: &[u8]) -> Complained {
 }
 
 // Writes the block of a text's records, and prints the reply, of fewer than 256 bytes.
+#[tactic(auto, using(crate::proofs::Lengths::block_in_buffer, crate::proofs::Lengths::block_part))]
 fn write_records(program: Program<'_>, text: &[u8], name: &str) -> Result<(), Complained> {
     let mut block = [0u8; BLOCK];
     let mut reply = [0u8; 256];
@@ -109,8 +112,8 @@ fn write_records(program: Program<'_>, text: &[u8], name: &str) -> Result<(), Co
     let Some(length) = written.length else {
         return Err(say(program, line));
     };
-    let end = (length as usize).min(BLOCK);
-    write_file(program.rt, name, &block[..end]).map_err(|error| program.fail_on(name, error))?;
+    let block = &block[..length as usize];
+    write_file(program.rt, name, block).map_err(|error| program.fail_on(name, error))?;
     program.print(line);
     Ok(())
 }
@@ -121,11 +124,8 @@ fn write_arguments(program: Program<'_>) -> Result<(), Complained> {
     let mut text = buffers::zeros::<TEXT>();
     let records = program.name_argument(1, &mut records_text, "RECORDS")?;
     let block = program.name_argument(2, &mut block_text, "BLOCK")?;
-    match program_files::read_file(program.rt, records, &mut text) {
-        Ok(Some(n)) => write_records(program, &text[..n], block),
-        Ok(None) => Err(program.complain(records, "over 262,144 bytes")),
-        Err(error) => Err(program.fail_on(records, error)),
-    }
+    let text = program_files::whole_file(program, records, &mut text, "over 262,144 bytes")?;
+    write_records(program, text, block)
 }
 
 fn main(rt: HostRuntime) {

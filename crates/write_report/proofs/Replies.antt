@@ -3,19 +3,19 @@ use Rattle.std.proofs.Common.{◌≡◌, refl, sym, ap, ◌∙◌, true, false, 
 use Rattle.std.proofs.Math.Decide.{dec_lt}
 use Rattle.std.proofs.Math.ListN.{get_or-eq_default}
 use Rattle.notation.specs.Choice.{choose}
-use Rattle.notation.specs.Lists.{count_before}
 use Rattle.laws.specs.Choice.{choose_yes, choose_no, choose_same, false_not_true}
 use Rattle.rules.specs.Answers.{Written}
 use Rattle.rules.specs.Writer.{records_in, processes_in, sections_in, regions_in, written, buffer_after}
 use Rattle.text.specs.Text.{Appended}
-use Rattle.record_fields.specs.Fields.{before, pieces, non_empty, fields}
 use Rattle.record_fields.proofs.Pieces.{pieces_length}
-use Rattle.record_lines.specs.Lines.{said_by, line_of, faulty}
-use Rattle.record_texts.specs.Texts.{Line, line_feed, mark_length, lines, sound_lines, process_words, section_words, region_words, words_of}
+use Rattle.record_lines.specs.Lines.{line_of, faulty}
+use Rattle.record_texts.specs.Texts.{Line, line_feed, mark_length, lines, sound_lines, fault_in, process_words, section_words, region_words, words_of}
 use Rattle.refusal_line.specs.Line.{refused_line}
 use Rattle.write_report.specs.Lines.{fault_line, block_line}
 use Rattle.std.specs.Prelude.{Result, Ok, Err}
-use Rattle.std.specs.Result.{result_ok}
+use Rattle.record_lines.specs.declared.Fault.{Fault}
+use Rattle.record_texts.proofs.Reading.{line_nil}
+use Rattle.std.specs.Result.{result_ok, result_err}
 use Rattle.refusals.specs.declared.Refused.{Refused}
 use Rattle.refusals.specs.Answers.{written_of}
 use Rattle.refusals.proofs.Given.{number_given}
@@ -23,10 +23,6 @@ use Rattle.write_report.specs.Replies.{faulty_line, at_fault, records_from, writ
 use Rattle.write_report.proofs.Held.{held_take, cut_alike, success_short}
 
 -- A FAULT lies in the text
-line_nil : ◌≡◌ {A = Line} (line_of []) (Ok None)
-unfolding line_of said_by fields before pieces non_empty count_before choose
-line_nil = refl
-
 pub fault_inside : (t : List ℕ) (n : ℕ) (l : List ℕ) → l ≡ get_or (lines t) n [] → faulty (line_of l) ≡ true → n + 1 ≤ length t
 unfolding lines
 fault_inside t n l e f = elim (dec_lt n (length (lines t))) [
@@ -44,6 +40,24 @@ length_of w = choose (eqb w.number 0) (Some w.length) None
 -- what a call leaves
 abbrev pub Leaves : List ℕ → List ℕ → List ℕ → List ℕ → List ℕ → Option ℕ → ℕ → Type 0
 Leaves t d d' xs ys n end = (n ≡ length_from t (length d)) × (d' ≡ buffer_from t d) × Appended xs 0 (reply_to t (length d)) ys end
+
+-- what the line says that is read after those that are not at fault
+err_is : (r : Line) (f : Fault) → Some f ≡ result_err r → Err f ≡ r
+err_is (Ok r) f e = absurd cc
+err_is (Err g) f e = cc
+
+none_is : (r : Line) → None ≡ result_err r → faulty r ≡ false
+none_is (Ok r) e = refl
+none_is (Err g) e = absurd cc
+
+module _ (t : List ℕ) (n : ℕ) (e : n ≡ length (sound_lines t)) where
+  pub fault_is : (l : List ℕ) (f : Fault) → l ≡ get_or (lines t) n [] → Some f ≡ fault_in t → Err f ≡ line_of l
+  unfolding fault_in
+  fault_is l f z h = rw z (err_is _ f (rw (← e) at h))
+
+  pub no_fault : None ≡ fault_in t → faulty (line_of (get_or (lines t) n [])) ≡ false
+  unfolding fault_in
+  no_fault h = none_is _ (rw (← e) at h)
 
 module _ (t : List ℕ) (n : ℕ) (e : n ≡ length (sound_lines t)) (l : List ℕ) (f : l ≡ get_or (lines t) n []) where
   line_is : l ≡ faulty_line t

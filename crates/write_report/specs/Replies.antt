@@ -1,9 +1,10 @@
 -- The block that is written from a text of records, and the reply.
-use Rattle.std.specs.Prelude.{Bool, List, [], ℕ, ◌+◌, eqb, length, get_or, Option, Some, None}
+use Rattle.std.specs.Prelude.{Bool, List, [], ℕ, ◌+◌, ◌/◌, eqb, length, get_or, Option, Some, None}
 use Rattle.notation.specs.Choice.{choose}
 use Rattle.rules.specs.Answers.{Written}
 use Rattle.rules.specs.Writer.{Records, records_in, processes_in, sections_in, regions_in, written, buffer_after}
 use Rattle.record_lines.specs.Lines.{line_of, faulty}
+use Rattle.record_texts.specs.declared.Read.{Read}
 use Rattle.record_texts.specs.Texts.{lines, sound_lines, process_words, section_words, region_words, words_of}
 use Rattle.refusal_line.specs.Line.{refused_line}
 use Rattle.write_report.specs.Lines.{fault_line, block_line}
@@ -27,6 +28,13 @@ unfoldable pub written_line : Records → Written → List ℕ
 written_line l w =
     choose (eqb w.number 0)
     (block_line w.length (processes_in l) (sections_in l) (regions_in l))
+    (refused_line w.number w.place w.offset)
+
+-- the same, where so many words of records of each kind are held
+abbrev pub held_line : Read → Written → List ℕ
+held_line read w =
+    choose (eqb w.number 0)
+    (block_line w.length (read.processes / 4) (read.sections / 4) (read.regions / 2))
     (refused_line w.number w.place w.offset)
 
 -- the reply, where the block's buffer has `room` bytes

@@ -6,15 +6,14 @@ use Rattle.block_records.proofs.read_section.Goals as goal
 pub returns : goal.returns
 unfolding address size flash_offset_of flags
 returns c =
-    let words = c.four_words.ensures in
-    let same = c.section_offset.ensures in
     section_is
-    (first_word _ _ _ _ same words.first)
-    (words.second ∙ same 4)
-    (words.third ∙ same 8)
-    (words.fourth ∙ same 12)
+    (first_word _ _ _ _ c.section_offset.ensures c.four_words.ensures.first)
+    (c.four_words.ensures.second ∙ c.section_offset.ensures 4)
+    (c.four_words.ensures.third ∙ c.section_offset.ensures 8)
+    (c.four_words.ensures.fourth ∙ c.section_offset.ensures 12)
     c.bit.ensures
     c.bit-2.ensures
     c.bit-3.ensures
-    (rw (c.from.ensures, c.from-2.ensures) at c.saturating_sub.ensures)
+    (rw (c.from.ensures, c.from-2.ensures))
+    c.saturating_sub.ensures
     c.type_inv.block

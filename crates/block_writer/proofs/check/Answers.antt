@@ -1,4 +1,4 @@
-use Rattle.std.proofs.Common.{◌≡◌, false, arith, sym, ◌∙◌}
+use Rattle.std.proofs.Common.{◌≡◌, false, sym, ◌∙◌}
 use Rattle.rules.specs.Refusals.{refused}
 use Rattle.rules.specs.Writer.{lists_unfit}
 use Rattle.round_trips.specs.WrittenBlock.{bounded}
@@ -27,11 +27,8 @@ unfolding refused verdict_of
 returns-then-room-block_length c =
     rw c.whole-then-room-block_length.ensures (verdict_22 _ _ (not_21 (goal.at.returns-then-room-block_length c).Else-unfit) (rw c.block_length.ensures at c.if-room-block_length.true))
 
-pub overflow_cast-lists : goal.overflow_cast-lists
-overflow_cast-lists c = omega (arith, (few_words (goal.at.overflow_cast-lists c).Else-unfit).section_words_is)
-
 pub check_process_records-requires : goal.check_process_records-requires
-check_process_records-requires c = (few_words (goal.at.check_process_records-requires c).Else-unfit).process_words_is
+check_process_records-requires c = few_words (goal.at.check_process_records-requires c).Else-unfit
 
 pub returns : goal.returns
 returns c =

@@ -1,5 +1,5 @@
-use Rattle.std.proofs.Common.{arith, ◌∙◌}
-use native.Mathlib.Nat.{sub-zero}
+use Rattle.std.proofs.Common.{arith, sym, ap, ◌∙◌, ℕ, List, get_or}
+use Rattle.std.proofs.Math.Nat.{sub-zero}
 use Rattle.rules.specs.Refusals.{refused, accepted, first_refusal}
 use Rattle.refusals.specs.Answers.{verdict_of}
 use Rattle.accepted.specs.InOrder.{scan_end}
@@ -9,23 +9,24 @@ use Rattle.block_writer.proofs.check_process_records.Goals as goal
 
 pub loop-i-init : goal.loop-i-init
 unfolding process_refusal first_refusal
-loop-i-init c = (sections_none _, omega arith, rw sub-zero)
-
-pub overflow_cast-result : goal.overflow_cast-result
-overflow_cast-result c =
-    omega (arith, offset_fits _ _ _ _ _ c.check_record-record.ensures (omega (arith, c.loop-i-test.true)))
+loop-i-init c = (sections_none _, omega arith, rw (sub-zero, c.counts.ensures))
 
 pub returns-in-Some : goal.returns-in-Some
 returns-in-Some c =
-    stops _ _ _ c.loop-i-test.true _ c.process_in-process.ensures c.loop-i.invariant.0 c.check_record-record.ensures _ c.in-Some.is c.loop-i.invariant.2
+    (stops _ _ _ (rw c.counts.ensures) c.loop-i-test.true _ c.process_in-process.ensures c.loop-i.invariant.0 c.check_record.ensures c.in-Some.refused
+    (offset_fits _ _ _ _ _ c.check_record.ensures (omega (arith, c.loop-i-test.true, ap (λ (n : List ℕ). get_or n 0 0) c.counts.ensures, c.requires.process_words_is)))
+    (sym c.in-Some.is ∙ c.at.ensures)
+    c.loop-i.invariant.2)
+    ∙ rw c.counts.ensures
 
 pub loop-i-preserved : goal.loop-i-preserved
 loop-i-preserved c = (
   rw (sections_next, ← c.process_in-process.ensures, ← c.loop-i.invariant.0) (omega arith),
   omega arith,
-  goes_on _ _ _ c.loop-i-test.true _ c.process_in-process.ensures c.loop-i.invariant.0 c.check_record-record.ensures c.in_default.is c.loop-i.invariant.2,
+  goes_on _ _ _ (rw c.counts.ensures) c.loop-i-test.true _ c.process_in-process.ensures c.loop-i.invariant.0 c.check_record.ensures
+      (sym c.in_default.is ∙ c.at.ensures) c.loop-i.invariant.2,
 )
 
 pub returns : goal.returns
 unfolding accepted refused verdict_of
-returns c = scan_end _ _ _ _ c.loop-i-test.false ∙ c.loop-i.invariant.2
+returns c = scan_end _ _ _ _ c.loop-i-test.false ∙ c.loop-i.invariant.2 ∙ rw c.counts.ensures

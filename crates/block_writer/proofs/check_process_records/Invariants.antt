@@ -6,5 +6,5 @@ use Rattle.block_writer.proofs.check_process_records.Given as goal
 -- the records from i on give what all give, and `before` is the sum of the section counts below i
 abbrev pub invariant-loop-i : goal.invariant-loop-i
 invariant-loop-i l =
-    (l.before ≡ sections_before_in l.processes l.i) × (l.before ≤ 4294967295 * l.i)
-    × (first_record (check_in l.processes l.s) l.i (l.p - l.i) accepted ≡ process_refusal l.processes l.s)
+    (l.before ≡ sections_before_in l.lists.processes.now l.i) × (l.before ≤ 4294967295 * l.i)
+    × (first_record (check_in l.lists.processes.now l.s) l.i (l.p - l.i) accepted ≡ process_refusal l.lists.processes.now l.s)

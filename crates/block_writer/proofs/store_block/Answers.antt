@@ -8,9 +8,8 @@ pub returns-clause-stored : goal.returns-clause-stored
 unfolding header_words
 returns-clause-stored c =
     let l = records_lent c.args.lists in
-    let is = c.header-words.ensures in
-    let b₁ = begun_more c.header-words.result 32 (begun_none c.args.buffer.now) (rw is) c.put_words.ensures in
+    let b₁ = begun_more c.header.result 32 (begun_none c.args.buffer.now) (rw c.header.ensures) c.put_words.ensures in
     let b₂ = begun_more l.processes _ b₁ refl c.put_words-2.ensures in
     let b₃ = begun_more l.sections _ b₂ refl c.put_words-3.ensures in
     let b₄ = begun_more l.regions _ b₃ refl c.put_words-4.ensures in
-    all_stored l b₄ (rw is)
+    all_stored l b₄ (rw (c.header.ensures, c.counts.ensures))

@@ -10,13 +10,13 @@ use Rattle.checks.proofs.check_before_12.Goals as goal
 pub returns-in_err-check_lent : goal.returns-in_err-check_lent
 returns-in_err-check_lent c =
     let p = err_from_is_err_and c.from_residual.result c.from_residual.ensures.1 in
-    rw (p.1, p.2) (stops (first_refusal (lent_checks c.args.flash c.args.ram)) _ _ c.in_err-check_lent.ensures ∙ sym (before_12_then c.args.block.now c.args.flash c.args.ram))
+    rw (p.1, p.2) (stops (first_refusal (lent_checks c.args.placed.flash c.args.placed.ram)) _ _ c.in_err-check_lent.ensures ∙ sym (before_12_then c.args.placed.block.now c.args.placed.flash c.args.placed.ram))
 
 pub returns-in_err-check_layout : goal.returns-in_err-check_layout
 returns-in_err-check_layout c =
     let p = err_from_is_err_and c.from_residual-in_err-check_layout.result c.from_residual-in_err-check_layout.ensures.1 in
-    let law = before_12_then c.args.block.now c.args.flash c.args.ram ∙ goes_on (first_refusal (lent_checks c.args.flash c.args.ram)) _ _ c.in_ok-check_lent.ensures in
-    rw (p.1, p.2) (stops (first_refusal (header_checks c.args.block.now)) _ _ c.in_err-check_layout.ensures ∙ sym law)
+    let law = before_12_then c.args.placed.block.now c.args.placed.flash c.args.placed.ram ∙ goes_on (first_refusal (lent_checks c.args.placed.flash c.args.placed.ram)) _ _ c.in_ok-check_lent.ensures in
+    rw (p.1, p.2) (stops (first_refusal (header_checks c.args.placed.block.now)) _ _ c.in_err-check_layout.ensures ∙ sym law)
 
 pub check_records-requires : goal.check_records-requires
 unfolding verdict_of accepted refused
@@ -24,6 +24,6 @@ check_records-requires c = counted _ (ap (λ (v : Verdict). v.number) (sym c.in_
 
 pub returns : goal.returns
 returns c =
-    let lent = goes_on (first_refusal (lent_checks c.args.flash c.args.ram)) _ _ c.in_ok-check_lent.ensures in
-    let header = goes_on (first_refusal (header_checks c.args.block.now)) (first_refusal (record_checks c.args.block.now c.args.flash c.args.ram)) _ c.in_ok-check_layout.ensures in
-    c.check_records.ensures ∙ sym (before_12_then c.args.block.now c.args.flash c.args.ram ∙ lent ∙ header)
+    let lent = goes_on (first_refusal (lent_checks c.args.placed.flash c.args.placed.ram)) _ _ c.in_ok-check_lent.ensures in
+    let header = goes_on (first_refusal (header_checks c.args.placed.block.now)) (first_refusal (record_checks c.args.placed.block.now c.args.placed.flash c.args.placed.ram)) _ c.in_ok-check_layout.ensures in
+    c.check_records.ensures ∙ sym (before_12_then c.args.placed.block.now c.args.placed.flash c.args.placed.ram ∙ lent ∙ header)

@@ -12,11 +12,11 @@ pub returns-in_err-check_before_12-clause-answer : goal.returns-in_err-check_bef
 unfolding verdict_of answer_of refused
 returns-in_err-check_before_12-clause-answer c =
     let p = err_from_is_err_and c.from_residual.result c.from_residual.ensures.1 in
-    rw (p.1, p.2) (marked_refused (image c.args.image) c.args.ram _ c.in_err-check_before_12.ensures (number_given _) c.args.xip.now).0
+    rw (p.1, p.2) (marked_refused (image c.args.image) c.args.ram _ (rw c.from.ensures at c.in_err-check_before_12.ensures) (number_given _) c.args.xip.now).0
 
 pub returns-in_err-check_before_12-clause-marks : goal.returns-in_err-check_before_12-clause-marks
 unfolding verdict_of refused
-returns-in_err-check_before_12-clause-marks c = (marked_refused (image c.args.image) c.args.ram _ c.in_err-check_before_12.ensures (number_given _) c.args.xip.now).1
+returns-in_err-check_before_12-clause-marks c = (marked_refused (image c.args.image) c.args.ram _ (rw c.from.ensures at c.in_err-check_before_12.ensures) (number_given _) c.args.xip.now).1
 
 pub overflow_cast-ram : goal.overflow_cast-ram
 unfolding verdict_of accepted refused
@@ -31,9 +31,9 @@ room_answer-requires c =
 pub returns-clause-answer : goal.returns-clause-answer
 unfolding verdict_of accepted refused
 returns-clause-answer c =
-    (marked_room (image c.args.image) c.args.ram _ c.in_ok-check_before_12.ensures refl c.args.xip.now _ _ c.mark_sections.ensures c.room_answer.ensures).0
+    (marked_room (image c.args.image) c.args.ram _ (rw c.from.ensures at c.in_ok-check_before_12.ensures) refl c.args.xip.now _ _ c.mark_sections.ensures c.room_answer.ensures).0
 
 pub returns-clause-marks : goal.returns-clause-marks
 unfolding verdict_of accepted refused
 returns-clause-marks c =
-    (marked_room (image c.args.image) c.args.ram _ c.in_ok-check_before_12.ensures refl c.args.xip.now _ _ c.mark_sections.ensures c.room_answer.ensures).1
+    (marked_room (image c.args.image) c.args.ram _ (rw c.from.ensures at c.in_ok-check_before_12.ensures) refl c.args.xip.now _ _ c.mark_sections.ensures c.room_answer.ensures).1

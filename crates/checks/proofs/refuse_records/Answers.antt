@@ -1,28 +1,22 @@
-use Rattle.std.proofs.Common.{◌≡◌, ap, sym, ◌∙◌}
-use Rattle.rules.specs.Refusals.{refused, accepted}
+use Rattle.std.proofs.Common.{sym, ◌∙◌}
+use Rattle.rules.specs.Refusals.{accepted}
 use Rattle.accepted.specs.InOrder.{scan_end, scan_next, scan_stop}
-use Rattle.refusals.specs.Numbers.{number_of}
-use Rattle.refusals.specs.Answers.{number_or_0, check_of, verdict_of}
-use Rattle.refusals.proofs.Given.{number_given}
+use Rattle.refusals.specs.Answers.{verdict_of}
+use Rattle.refusals.proofs.Placed.{none_at, some_at}
 use Rattle.checks.proofs.refuse_records.Goals as goal
 
 pub returns-in-Some : goal.returns-in-Some
-unfolding verdict_of number_or_0
+unfolding verdict_of
 returns-in-Some g c =
     λ f h.
-    let i = c.loop-i.i in
-    let r = c.check-record.result in
-    let number : number_or_0 r.refusal ≡ number_of c.in-Some.refusal = rw c.in-Some.is in
-    let said = scan_stop f accepted i c.args.n (check_of r) c.loop-i-test.true (h i r c.loop-i-test.true c.check-record.ensures) (λ z. number_given c.in-Some.refusal (sym number ∙ z)) in
-    ap (λ m. refused m i r.offset) (sym number) ∙ said ∙ c.loop-i.invariant f h
+    let told = some_at _ _ _ (c.requires.near _ _ c.loop-i-test.true c.check.ensures) (sym c.in-Some.is ∙ c.at.ensures) in
+    sym told.1 ∙ scan_stop f accepted _ _ _ c.loop-i-test.true (h _ _ c.loop-i-test.true c.check.ensures) told.0 ∙ c.loop-i.invariant f h
 
 pub loop-i-preserved : goal.loop-i-preserved
-unfolding number_or_0
 loop-i-preserved g c =
     λ f h.
-    let i = c.loop-i.i in
-    let r = c.check-record.result in
-    scan_next f accepted i c.args.n (check_of r) c.loop-i-test.true (h i r c.loop-i-test.true c.check-record.ensures) (rw c.in_default.is) ∙ c.loop-i.invariant f h
+    scan_next f accepted _ _ _ c.loop-i-test.true (h _ _ c.loop-i-test.true c.check.ensures) (none_at _ _ (sym c.in_default.is ∙ c.at.ensures))
+    ∙ c.loop-i.invariant f h
 
 pub returns : goal.returns
 unfolding verdict_of

@@ -15,7 +15,7 @@ overflow_cast-tracker c =
 pub returns : goal.returns
 unfolding answer_of
 returns c =
-    let count = c.process_count-after_all.ensures in
-    let place = c.root_place-needed.ensures in
-    boot_answer_is _ _ _ _ _ (room_enough _ _ _ _ _ count place c.requires.0 c.if-pages-needed.false) (place_needed _ _ _ _ _ count place c.requires.0 c.if-pages-needed.false)
+    boot_answer_is _ _ _ _ _
+    (room_enough _ _ _ _ _ c.process_count-after_all.ensures c.root_place-needed.ensures c.requires.0 c.if-pages-needed.false)
+    (place_needed _ _ _ _ _ c.process_count-after_all.ensures c.root_place-needed.ensures c.requires.0 c.if-pages-needed.false)
     c.tracker_pages-tracker.ensures.0

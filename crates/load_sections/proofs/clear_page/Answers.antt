@@ -1,6 +1,5 @@
-use Prim.Native.Nat.{◌+◌, ◌*◌}
 use Rattle.writing.specs.Pages.{put_part}
-use Rattle.std.proofs.Common.{arith}
+use Rattle.std.proofs.Common.{arith, ◌+◌, ◌*◌}
 use Rattle.load_sections.proofs.clear_page.Goals as goal
 
 pub returns : goal.returns

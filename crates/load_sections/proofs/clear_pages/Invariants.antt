@@ -1,4 +1,4 @@
-use Prim.Native.Nat.{◌-◌, ◌≤◌}
+use Rattle.std.proofs.Common.{◌-◌, ◌≤◌}
 use Rattle.load_sections.specs.Pages.{WrotePages}
 use Rattle.load_sections.proofs.clear_pages.Given as goal
 

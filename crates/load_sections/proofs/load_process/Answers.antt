@@ -10,4 +10,4 @@ pub loop-j-preserved : goal.loop-j-preserved
 loop-j-preserved c = wrote_gather_next _ _ _ c.loop-j.invariant c.load_section-next.ensures
 
 pub returns : goal.returns
-returns c = process_end _ _ _ _ _ c.loop-j.invariant (omega (arith, c.read_process-process.ensures.sections_of_is))
+returns c = process_end _ _ _ _ _ c.loop-j.invariant (omega (arith, c.read_process-j-end.ensures.sections_of_is))

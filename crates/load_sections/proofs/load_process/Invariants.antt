@@ -6,4 +6,4 @@ use Rattle.rules.specs.Order.{section_pages}
 use Rattle.load_sections.proofs.load_process.Given as goal
 
 abbrev pub invariant-loop-j : goal.invariant-loop-j
-invariant-loop-j l = Wrote (section_content l.block l.flash) (gather l.j (section_pages l.block (marked l.xip) l.q)) l.initial.ram l.initial.next.left l.ram l.next.left
+invariant-loop-j l = Wrote (section_content l.source.block.bytes.now l.source.flash.now) (gather l.j (section_pages l.source.block.bytes.now (marked l.source.block.xip.now) l.q)) l.initial.ram l.initial.next.left l.ram l.next.left

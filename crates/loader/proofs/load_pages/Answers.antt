@@ -1,5 +1,6 @@
 use Rattle.std.proofs.Common.{refl, ◌/◌, length, arith}
-use Rattle.rules.specs.Lent.{image_of, memory_of}
+use Rattle.rules.specs.Lent.{memory_of}
+use Rattle.lent.specs.Lent.{image}
 use Rattle.xip_sections.specs.Marks.{marked}
 use Rattle.loader.proofs.Loading.{needed_four, list_place, tables_place, list_room, pages_end}
 use Rattle.loader.proofs.load_pages.Goals as goal
@@ -9,7 +10,7 @@ invariant_of-plan c = record { fits = c.requires.0.room; flash_numbers = c.requi
 
 pub overflow_sub-below_top : goal.overflow_sub-below_top
 overflow_sub-below_top c =
-    omega (arith, needed_four c.args.block.now (marked c.args.xip.now) (length c.args.ram.now / 4096), c.requires.0.room.enough)
+    omega (arith, needed_four c.args.image.block.now (marked c.args.xip.now) (length c.args.ram.now / 4096), c.requires.0.room.enough)
 
 pub load_process_list-after_list-requires : goal.load_process_list-after_list-requires
 load_process_list-after_list-requires c =
@@ -25,5 +26,5 @@ pub returns : goal.returns
 returns c =
     let list = c.load_process_list-after_list.ensures in
     let copy = c.load_block-after_copy.ensures in
-    pages_end (image_of _ _ c.args.flash.now) (memory_of _ c.args.ram.now) (marked c.args.xip.now) c.requires.2 c.requires.0 c.load_sections-after_sections.ensures
+    pages_end (image c.args.image) (memory_of _ c.args.ram.now) (marked c.args.xip.now) c.requires.2 c.requires.0 c.load_sections-after_sections.ensures
     c.load_tracker-after_tracker.ensures list.0 list.1 copy.0 copy.1 c.load_tables.ensures

@@ -14,7 +14,7 @@ take_slots-taken-requires c = c.loop-j.invariant
 pub loop-j-preserved : goal.loop-j-preserved
 loop-j-preserved c =
     let read = c.read_section-section.ensures in
-    is_taken_next _ _ _ (omega arith) read.first_page read.last_page c.take_slots-taken.ensures
+    is_taken_next _ _ _ c.section.ensures read.first_page read.last_page (rw (c.slot.ensures, c.slot-in-loop-j.ensures) at c.take_slots-taken.ensures)
 
 pub take_slots-all-requires : goal.take_slots-all-requires
 take_slots-all-requires c =

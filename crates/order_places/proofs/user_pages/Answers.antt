@@ -1,13 +1,8 @@
-use Rattle.std.proofs.Common.{◌≡◌, arith}
-use Rattle.order_laws.specs.Places.{user_pages_none, user_pages_next}
+use Rattle.std.proofs.Common.{rules, ◌+◌}
+use Rattle.order_laws.specs.Places.{process_pages, user_pages}
 use Rattle.xip_sections.specs.Marks.{marked}
 use Rattle.order_places.proofs.user_pages.Goals as goal
 
-pub loop-i-init : goal.loop-i-init
-loop-i-init c = omega (arith, user_pages_none c.args.block.now (marked c.args.xip.now))
-
-pub loop-i-preserved : goal.loop-i-preserved
-loop-i-preserved c = omega (arith, user_pages_next c.args.block.now (marked c.args.xip.now) c.loop-i.i)
-
 pub returns : goal.returns
-returns c = let e : c.loop-i.i ≡ c.args.n = omega arith in rw e at c.loop-i.invariant
+unfolding user_pages
+returns c = c.capped_total.ensures (λ i. process_pages c.args.block.now.bytes.now (marked c.args.block.now.xip.now) (i + 2)) (λ i r h k. search rules)

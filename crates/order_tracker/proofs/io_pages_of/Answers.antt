@@ -1,19 +1,23 @@
-use Rattle.std.proofs.Common.{◌≡◌, sym, arith}
-use Rattle.laws.specs.Counts.{sum_none, sum_next}
+use Rattle.std.proofs.Common.{rules, tests, arith, ◌∙◌}
+use Rattle.std.proofs.lemmas.Iterator.{YieldsList-from_range, YieldsList-from_map}
+use Rattle.std.proofs.lemmas.Iterator.Consumers.{sum_from_yields_List, fits_from_yields_list}
 use Rattle.rules.specs.Block.{io_pages_of, region_pages}
+use Rattle.laws.specs.Sums.{sum_of_range, sum_at_most}
+use Rattle.block_records.proofs.Sections.{word_small}
 use Rattle.order_tracker.proofs.io_pages_of.Goals as goal
 
-pub loop-i-init : goal.loop-i-init
-unfolding io_pages_of
-loop-i-init c = (sym (sum_none _), omega arith)
-
-pub loop-i-preserved : goal.loop-i-preserved
-unfolding io_pages_of
-loop-i-preserved c =
-    let t = sum_next c.loop-i.i (region_pages c.args.block.now) in
-    (omega arith, omega arith)
+pub sum-requires-clause-fits : goal.sum-requires-clause-fits
+unfolding region_pages
+sum-requires-clause-fits c =
+    let all = sum_at_most (region_pages c.args.block.now) (λ i. word_small _ _ c.type_inv.block) c.args.n in
+    fits_from_yields_list c.map.result _
+    (YieldsList-from_map _ (region_pages c.args.block.now) (YieldsList-from_range 0 c.args.n c.args.n c.map.ensures.source (omega arith)) c.map.ensures.closure (λ x r q k. search (rules, tests)))
+    (rw sum_of_range (omega (arith, all)))
 
 pub returns : goal.returns
+unfolding region_pages io_pages_of
 returns c =
-    let e : c.loop-i.i ≡ c.args.n = omega arith in
-    rw e at c.loop-i.invariant
+    let is = sum_from_yields_List c.map.result _ c.sum.ensures.ran
+    (YieldsList-from_map _ (region_pages c.args.block.now) (YieldsList-from_range 0 c.args.n c.args.n c.map.ensures.source (omega arith)) c.map.ensures.closure (λ x r q k. search (rules, tests)))
+    ∙ sum_of_range _ c.args.n in
+    (is, rw is (sum_at_most _ (λ i. word_small _ _ c.type_inv.block) c.args.n))

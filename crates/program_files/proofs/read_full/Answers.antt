@@ -3,7 +3,7 @@ use Rattle.std.proofs.lemmas.Slice.{take-put_mid_below}
 use Rattle.std.specs.Io.KnownBytes.{Consumes}
 use Rattle.std.proofs.KnownBytes.{Consumes-trans}
 use borrow.Rule.Slice.PartMut.{put_mid, post_of}
-use lib.Seq.{take-append-le}
+use Rattle.std.proofs.lemmas.List.{take-append-le}
 use Rattle.program_files.proofs.read_full.Goals as goal
 
 -- the front of a buffer, and then what was read into the rest

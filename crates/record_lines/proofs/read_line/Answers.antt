@@ -1,16 +1,8 @@
 use Rattle.std.proofs.lemmas.Result.{err_from_is_err_and}
 use Rattle.record_lines.specs.Lines.{line_of}
 use Rattle.record_lines.specs.declared.Kind.TheVariants.{Process, Section, Region}
-use Rattle.record_lines.proofs.Lines.{said_empty, said_unknown, said_numbers}
+use Rattle.record_lines.proofs.Lines.{said_numbers}
 use Rattle.record_lines.proofs.read_line.Goals as goal
-
-pub returns-then-field_count-eq0 : goal.returns-then-field_count-eq0
-unfolding line_of
-returns-then-field_count-eq0 c = said_empty _ _ c.field_count.ensures c.if-field_count-eq0.true
-
-pub returns-in-None : goal.returns-in-None
-unfolding line_of
-returns-in-None c = said_unknown _ _ c.field_count.ensures c.if-field_count-eq0.false (rw c.field.ensures at c.in-None.ensures)
 
 pub returns-in_err-read_numbers-in-Some-Process : goal.returns-in_err-read_numbers-in-Some-Process
 unfolding line_of

@@ -8,14 +8,14 @@ returns-then-count g c = numbers_count _ _ _ c.field_count-count.ensures c.if-co
 pub loop-k-init : goal.loop-k-init
 loop-k-init g c = numbers_none _ _
 
-pub returns-in_err-numbers : goal.returns-in_err-numbers
-returns-in_err-numbers g c =
+pub returns-in_err-number : goal.returns-in_err-number
+returns-in_err-number g c =
     let p = err_from_is_err_and c.from_residual.result c.from_residual.ensures.1 in
-    rw (p.1, p.2, c.in_err-numbers.ensures.1)
-    (numbers_fault _ _ _ _ _ c.field_count-count.ensures c.if-count.false c.loop-k.invariant c.loop-k-test.true c.in_err-numbers.ensures.0)
+    rw (p.1, p.2, c.in_err-number.ensures.1)
+    (numbers_fault _ _ _ _ _ c.field_count-count.ensures c.if-count.false c.loop-k.invariant c.loop-k-test.true c.in_err-number.ensures.0)
 
 pub loop-k-preserved : goal.loop-k-preserved
-loop-k-preserved g c = numbers_next _ _ _ _ _ c.loop-k.invariant c.loop-k-test.true c.in_ok-numbers.ensures
+loop-k-preserved g c = numbers_next _ _ _ _ _ c.loop-k.invariant c.loop-k-test.true c.in_ok-number.ensures
 
 pub returns : goal.returns
 returns g c = numbers_all _ _ _ _ _ c.field_count-count.ensures c.if-count.false c.loop-k.invariant c.loop-k-test.false

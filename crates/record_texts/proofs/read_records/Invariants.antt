@@ -1,9 +1,6 @@
-use Rattle.std.proofs.Common.{length}
+use Rattle.std.proofs.Common.{◌≡◌, length, None}
 use Rattle.record_texts.proofs.Reading.{Reading}
 use Rattle.record_texts.proofs.read_records.Given as goal
 
-abbrev pub invariant-loop-rest : goal.invariant-loop-rest
-invariant-loop-rest l = Reading l.text l.initial.processes l.initial.sections l.initial.regions l.rest l.read.lines l.processes l.sections l.regions l.read.processes l.read.sections l.read.regions
-
-abbrev pub decreases-loop-rest : goal.decreases-loop-rest
-decreases-loop-rest l = length l.rest
+abbrev pub invariant-loop-line : goal.invariant-loop-line
+invariant-loop-line l = (l.lines ≡ length l.yielded) × (l.fault ≡ None) × Reading l.text l.initial.processes l.initial.sections l.initial.regions l.lines l.processes l.sections l.regions

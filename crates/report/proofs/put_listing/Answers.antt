@@ -9,7 +9,7 @@ use Rattle.report.proofs.put_listing.Goals as goal
 pub returns-in-Err : goal.returns-in-Err
 unfolding answer_of refusal_answer refused
 returns-in-Err c = λ r e.
-    listed_refused _ r _ (answer_is _ r (rw c.in-Err.is at c.requires) e) (answer_refused c.in-Err.e) (rw c.number.ensures at c.put_line.ensures)
+    listed_refused _ r _ (answer_is _ r (rw c.in-Err.is at c.requires) e) (answer_refused c.in-Err.e) c.put_line.ensures
 
 pub process_lines-requires : goal.process_lines-requires
 unfolding answer_of

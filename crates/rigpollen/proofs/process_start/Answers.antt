@@ -1,17 +1,22 @@
+use Rattle.std.proofs.lemmas.Result.{err_from_is_err_and}
 use Rattle.lent.specs.Lent.{image}
 use Rattle.refusals.specs.Answers.{verdict_of}
 use Rattle.rigpollen.proofs.Started.{process_refused, no_process, process_told}
 use Rattle.rigpollen.proofs.process_start.Goals as goal
 
-pub returns-in-Err : goal.returns-in-Err
+pub returns-in_err-check : goal.returns-in_err-check
 unfolding verdict_of
-returns-in-Err c = rw c.number.ensures (process_refused (image c.args.image) c.args.ram c.args.q c.in-Err.e c.in-Err.ensures)
+returns-in_err-check c =
+    let p = err_from_is_err_and c.from_residual.result c.from_residual.ensures.1 in
+    rw (p.1, p.2) (process_refused (image c.args.image) c.args.ram c.args.q _ c.in_err-check.ensures)
 
-pub returns-in-None : goal.returns-in-None
+pub returns-in_err-root : goal.returns-in_err-root
 unfolding verdict_of
-returns-in-None c = no_process (image c.args.image) c.args.ram c.args.q c.in_default.ensures c.find_root.ensures c.in-None.is
+returns-in_err-root c =
+    let p = err_from_is_err_and c.from_residual-in_err-root.result c.from_residual-in_err-root.ensures.1 in
+    rw (p.1, p.2) (no_process (image c.args.image) c.args.ram c.args.q c.in_ok-check.ensures _ c.find_root.ensures c.in_err-root.ensures.value)
 
-pub returns-in-Some : goal.returns-in-Some
+pub returns : goal.returns
 unfolding verdict_of
-returns-in-Some c =
-    process_told (image c.args.image) c.args.ram c.args.q c.in_default.ensures c.in-Some.root c.find_root.ensures c.in-Some.is c.start_words.ensures
+returns c =
+    process_told (image c.args.image) c.args.ram c.args.q c.in_ok-check.ensures c.in_ok-root.root c.find_root.ensures c.in_ok-root.ensures.value c.start_words.ensures

@@ -6,6 +6,6 @@ pub returns : goal.returns
 unfolding walk
 returns c =
     let page = c.args.page.0 in
-    let slot : 4096 * page / 4_194_304 ≡ page / 1024 = omega arith in
+    let slot : 4096 * page / 4_194_304 ≡ c.slot.result = omega (arith, c.slot.ensures) in
     let same : 4096 * page / 4096 ≡ page = omega arith in
     rw (slot, same) (c.root_answer.ensures ∙ ap (root_answer _ _) c.table_entry-entry.ensures)

@@ -1,5 +1,5 @@
+use Rattle.std.proofs.lemmas.Bool.{lt-leb}
 use Rattle.std.proofs.Common.{◌+◌, ◌*◌, arith, refl, ◌∙◌, le-leb}
-use borrow.Author.Tests.{lt-leb}
 use Rattle.stores.proofs.Written.{written_none, written_more, chosen_is}
 use Rattle.sv32_tables.specs.Filled.{pages_mapped}
 use Rattle.sv32_tables.proofs.map_pages.Goals as goal
@@ -10,7 +10,7 @@ loop-i-init c = record { to_end = omega arith; done = written_none _ _ _ _ (omeg
 pub loop-i-preserved : goal.loop-i-preserved
 loop-i-preserved c = record {
   to_end = omega arith;
-  done = written_more c.loop-i.invariant.done _ refl (c.page_entry.ensures ∙ rw c.nth_page.ensures) (omega arith);
+  done = written_more c.loop-i.invariant.done _ refl (c.page_entry.ensures ∙ rw c.nth.ensures) (omega arith);
 }
 
 pub returns : goal.returns

@@ -7,5 +7,5 @@ returns c =
     (puts_then c.put.ensures
     (puts_then c.put_decimal.ensures
     (puts_then c.put-2.ensures
-    (puts_then c.put_verb.ensures
-    (puts_then c.put-3.ensures c.put_decimal-2.ensures)))))
+    (puts_then (rw c.verb.ensures at c.put-3.ensures)
+    (puts_then c.put-4.ensures c.put_decimal-2.ensures)))))

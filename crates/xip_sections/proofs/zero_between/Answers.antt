@@ -1,16 +1,12 @@
-use Rattle.std.proofs.Common.{◌≡◌, ◌-◌, arith}
-use Rattle.laws.specs.Lists.{exists_none}
-use Rattle.xip_sections.proofs.Zeros.{zero_next, zero_not, zero_all}
+use Rattle.std.proofs.Common.{◌≡◌, true, false, ◌-◌, refl, rules, tests}
+use Rattle.std.proofs.lemmas.Iterator.{cases_from_any, YieldsList-from_range}
+use Rattle.xip_sections.proofs.Zeros.{not_zero, zero_by_any}
 use Rattle.xip_sections.proofs.zero_between.Goals as goal
 
-pub loop-i-init : goal.loop-i-init
-loop-i-init c = let e : c.args.from - c.args.from ≡ 0 = omega arith in (omega arith, rw e (exists_none _))
-
-pub returns-then-byte-ne0 : goal.returns-then-byte-ne0
-returns-then-byte-ne0 c = zero_not _ _ c.loop-i.i (omega arith) c.byte.ensures _ (omega arith) c.if-byte-ne0.true
-
-pub loop-i-preserved : goal.loop-i-preserved
-loop-i-preserved c = (omega arith, zero_next _ _ _ (omega arith) c.byte.ensures c.loop-i.invariant.1 c.if-byte-ne0.false)
-
 pub returns : goal.returns
-returns c = zero_all _ _ _ c.loop-i.i (omega arith) c.loop-i.invariant.1
+returns c =
+    let s = c.args.s.now in
+    let range = YieldsList-from_range c.args.from c.args.to (c.args.to - c.args.from) refl refl in
+    zero_by_any s c.args.from c.args.to _
+    (cases_from_any _ _ _ (λ i. not_zero s i ≡ true) (λ i. not_zero s i ≡ false) c.any.ensures.ran range
+    (λ x q k. search (rules, tests)) (λ x q k. search (rules, tests)))

@@ -6,7 +6,7 @@ use Rattle.loader.proofs.leaf_entries.map_sections.Given as goal
 
 abbrev pub invariant-loop-j : goal.invariant-loop-j
 invariant-loop-j l = record {
-  inside : l.j ≤ sections_of l.leaf.share.plan.block.now l.leaf.share.q;
+  inside : l.j ≤ sections_of l.leaf.share.plan.now.block.bytes.now l.leaf.share.q;
   size : length l.entries ≡ length l.initial.entries;
-  mapped : Mapped l.leaf.share.plan.block.now (in_flash l.leaf.share.plan) (l.leaf.share.plan.flash_start / 4096) l.leaf.share.plan.range l.leaf.share.q l.leaf.slot l.j l.place l.entries;
+  mapped : Mapped l.leaf.share.plan.now.block.bytes.now (in_flash l.leaf.share.plan.now) (l.leaf.share.plan.now.flash_start / 4096) l.leaf.share.plan.now.range l.leaf.share.q l.leaf.slot l.j l.place l.entries;
 }

@@ -1,18 +1,18 @@
 use Rattle.std.proofs.Common.{refl, arith}
-use Rattle.loader.proofs.LeafCursor.{leaf_found, leaf_own, leaf_none, passed_room, passed_more}
+use Rattle.loader.proofs.LeafCursor.{record_number, leaf_found, leaf_own, leaf_none, passed_room, passed_more}
 use Rattle.loader.proofs.Shares.{walk}
 use Rattle.loader.proofs.leaves.leaf_from.Goals as goal
 
 pub invariant_of-result : goal.invariant_of-result
 invariant_of-result c =
     let process = c.read_process-process.ensures in
-    let at = leaf_found (walk c.args.from.now.share) c.loop-j.invariant (omega (arith, process.sections_of_is)) process.first_section c.read_section-section.ensures c.if-from-section.true c.max-slot.ensures in
+    let at = leaf_found (walk c.args.from.now.share) c.loop-j.invariant (omega (arith, process.sections_of_is)) (record_number _ _ _ c.section-n.ensures process.first_section) c.read_section-section.ensures (rw c.slot.ensures at c.if-from-slot.true) (rw c.slot-then-from-slot.ensures at c.max-slot.ensures) in
     record { here = at.here; passed = at.passed }
 
-pub returns-then-from-section : goal.returns-then-from-section
-returns-then-from-section c =
+pub returns-then-from-slot : goal.returns-then-from-slot
+returns-then-from-slot c =
     let process = c.read_process-process.ensures in
-    (refl, (leaf_found (walk c.args.from.now.share) c.loop-j.invariant (omega (arith, process.sections_of_is)) process.first_section c.read_section-section.ensures c.if-from-section.true c.max-slot.ensures).first)
+    (refl, (leaf_found (walk c.args.from.now.share) c.loop-j.invariant (omega (arith, process.sections_of_is)) (record_number _ _ _ c.section-n.ensures process.first_section) c.read_section-section.ensures (rw c.slot.ensures at c.if-from-slot.true) (rw c.slot-then-from-slot.ensures at c.max-slot.ensures)).first)
 
 pub overflow_add-place : goal.overflow_add-place
 overflow_add-place c =
@@ -21,8 +21,8 @@ overflow_add-place c =
 pub loop-j-preserved : goal.loop-j-preserved
 loop-j-preserved c =
     let process = c.read_process-process.ensures in
-    passed_more c.loop-j.invariant (omega (arith, process.sections_of_is)) process.first_section c.read_section-section.ensures
-    (omega arith) c.pages_taken-place.ensures.0
+    passed_more c.loop-j.invariant (omega (arith, process.sections_of_is)) (record_number _ _ _ c.section-n.ensures process.first_section) c.read_section-section.ensures
+    (omega (arith, c.slot.ensures)) c.pages_taken-place.ensures.0
 
 pub returns-then-slot-from : goal.returns-then-slot-from
 returns-then-slot-from c =

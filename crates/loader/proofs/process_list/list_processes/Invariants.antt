@@ -8,5 +8,5 @@ use Rattle.loader.proofs.process_list.list_processes.Given as goal
 abbrev pub invariant-loop-i : goal.invariant-loop-i
 invariant-loop-i l = record {
   at_place : l.place ≡ root_at l.plan (l.i + 1);
-  done : Written (list_byte l.plan.block.now (satp_word l.plan.block.now (in_flash l.plan) l.plan.range)) 0 (12 * l.i) l.initial.page l.page;
+  done : Written (list_byte l.plan.block.bytes.now (satp_word l.plan.block.bytes.now (in_flash l.plan) l.plan.range)) 0 (12 * l.i) l.initial.page l.page;
 }

@@ -10,5 +10,5 @@ invariant-loop-leaf l = record {
   ends : (goal.iterator-loop-leaf).is_finite l.leaf-iterator;
   same : l.leaf-iterator.share ≡ l.share;
   inside : l.leaf-iterator.slot ≤ 1024;
-  done : Loads l.share.plan (gather l.leaf-iterator.slot (leaf_uses l.share.plan.block.now l.share.q)) l.initial.ram l.initial.next.left l.ram l.next.left;
+  done : Loads l.share.plan.now (gather l.leaf-iterator.slot (leaf_uses l.share.plan.now.block.bytes.now l.share.q)) l.initial.ram l.initial.next.left l.ram l.next.left;
 }

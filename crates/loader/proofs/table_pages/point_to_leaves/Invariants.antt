@@ -8,5 +8,5 @@ invariant-loop-leaf l = record {
   ends : (goal.iterator-loop-leaf).is_finite l.leaf-iterator;
   same : l.leaf-iterator.share ≡ l.share;
   inside : l.leaf-iterator.slot ≤ 1024;
-  done : Pointing l.share.plan.block.now l.share.q l.initial.page l.initial.entries l.entries l.page l.leaf-iterator.slot;
+  done : Pointing l.share.plan.now.block.bytes.now l.share.q l.initial.page l.initial.entries l.entries l.page l.leaf-iterator.slot;
 }

@@ -13,7 +13,7 @@ overflow_sub-end c =
 pub loop-i-init : goal.loop-i-init
 loop-i-init c =
     let plan = c.args.plan.now in
-    record { at_end = omega (arith, user_pages_none plan.block.now (in_flash plan)); done = written_none _ _ _ _ refl }
+    record { at_end = omega (arith, user_pages_none plan.block.bytes.now (in_flash plan)); done = written_none _ _ _ _ refl }
 
 pub overflow_cast-start : goal.overflow_cast-start
 overflow_cast-start c =

@@ -7,6 +7,6 @@ use Rattle.loader.proofs.tracker.track_owners.Given as goal
 
 abbrev pub invariant-loop-i : goal.invariant-loop-i
 invariant-loop-i l = record {
-  at_end : l.end ≡ l.pages - 4 - user_pages l.plan.block.now (in_flash l.plan) l.i;
-  done : Written (tracker_byte l.plan.block.now (in_flash l.plan) l.pages) l.end (l.pages - 4) l.initial.page l.page;
+  at_end : l.end ≡ l.pages - 4 - user_pages l.plan.block.bytes.now (in_flash l.plan) l.i;
+  done : Written (tracker_byte l.plan.block.bytes.now (in_flash l.plan) l.pages) l.end (l.pages - 4) l.initial.page l.page;
 }
