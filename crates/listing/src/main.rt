@@ -43,7 +43,8 @@ struct Board {
     ghost in_ram: { pages ≤ PAGES },
 }
 
-// Loads, and prints the listing.
+// Loads, and prints the listing. (Not inlined: a call that loads nothing takes no stack for RAM.)
+#[inline(never)]
 fn list(program: Program<'_>, block: &[u8], flash: &[u8], board: Board) {
     let mut ram = buffers::zeros::<RAM>();
     let end = 4096 * board.pages as usize;
@@ -91,33 +92,42 @@ fn board_arguments(program: Program<'_>, count: usize) -> Result<Board, Complain
     })
 }
 
-// The block file that argument 1 names, put at the start of the buffer. A block that is accepted has at most 1,568 bytes. So of a longer
+// The block file that argument 1 names, put at the start of `block`, by way of `text`. A block that is accepted has at most 1,568 bytes. So of a longer
 // file no more than the buffer holds can matter: it is refused by its length or before.
-fn block_argument<'b>(program: Program<'_>, block: &'b mut [u8]) -> Result<&'b [u8], Complained> {
-    let mut text = [0u8; 4096];
-    let name = program.name_argument(1, &mut text, "BLOCK")?;
+fn block_argument<'b>(
+    program: Program<'_>,
+    text: &mut [u8],
+    block: &'b mut [u8],
+) -> Result<&'b [u8], Complained> {
+    let name = program.name_argument(1, text, "BLOCK")?;
     match program_files::read_file(program.rt, name, block) {
         Ok(Contents::Whole(bytes) | Contents::Start(bytes)) => Ok(bytes),
         Err(error) => Err(program.fail_on(name, error)),
     }
 }
 
-// The flash file that argument 2 names, put at the start of the buffer.
-fn flash_argument<'b>(program: Program<'_>, flash: &'b mut [u8]) -> Result<&'b [u8], Complained> {
-    let mut text = [0u8; 4096];
-    let name = program.name_argument(2, &mut text, "FLASH")?;
-    program_files::whole_file(program, name, flash, "over 262,144 bytes")
+// The board of a block and a flash file. (Not inlined: only a call that has come to its flash file takes stack for one.)
+#[inline(never)]
+fn list_with_flash(
+    program: Program<'_>,
+    block: &[u8],
+    name: &str,
+    count: usize,
+) -> Result<(), Complained> {
+    let mut flash = buffers::zeros::<FLASH>();
+    let flash = program_files::whole_file(program, name, &mut flash, "over 262,144 bytes")?;
+    let board = board_arguments(program, count)?;
+    list(program, block, flash, board);
+    Ok(())
 }
 
 // Of `count` arguments, the program's own name among them.
 fn list_arguments(program: Program<'_>, count: usize) -> Result<(), Complained> {
     let mut block = [0u8; 4096];
-    let mut flash = buffers::zeros::<FLASH>();
-    let block = block_argument(program, &mut block)?;
-    let flash = flash_argument(program, &mut flash)?;
-    let board = board_arguments(program, count)?;
-    list(program, block, flash, board);
-    Ok(())
+    let mut text = [0u8; 4096];
+    let block = block_argument(program, &mut text, &mut block)?;
+    let name = program.name_argument(2, &mut text, "FLASH")?;
+    list_with_flash(program, block, name, count)
 }
 
 fn main(rt: HostRuntime) {
