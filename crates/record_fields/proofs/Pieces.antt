@@ -1,14 +1,14 @@
 -- Laws of searches in a list and of its pieces.
-use Rattle.std.proofs.Common.{◌≡◌, refl, sym, ap, ◌∙◌, List, [], ◌∷◌, ◌++◌, Bool, true, false, not, cond, ◌⊎◌, inl, inr, ℕ, suc, ◌+◌, ◌≤◌, ◌<◌, eqb, length, get_or, take, drop, ltb, slice_get, Option, Some, None, Bor, arith, ne_eqb}
+use Rattle.std.proofs.Common.{◌≡◌, refl, sym, ap, ◌∙◌, List, [], ◌∷◌, ◌++◌, Bool, true, false, not, cond, ◌⊎◌, inl, inr, ℕ, suc, ◌+◌, ◌≤◌, ◌<◌, length, get_or, take, drop, ltb, slice_get, Option, Some, None, Bor, arith}
 use Rattle.std.specs.Option.{option_map, unwrap_or}
 use Rattle.std.proofs.lemmas.Bool.{ltb-false}
 use Rattle.std.proofs.lemmas.Option.{unwrap_or-slice_get}
 use Rattle.std.proofs.lemmas.List.{take_all}
-use Rattle.std.specs.List.{filter, position_or_len, position, slice_split, onto_first}
+use Rattle.std.specs.List.{position_or_len, position, slice_split, onto_first}
 use Rattle.notation.specs.Choice.{choose}
 use Rattle.notation.specs.Lists.{count_before}
 use Rattle.laws.specs.Choice.{by_test, by_choose, choose_yes, choose_no}
-use Rattle.record_fields.specs.Fields.{before, on_first, pieces, non_empty}
+use Rattle.record_fields.specs.Fields.{before, on_first, pieces}
 
 module _ {A : Type 0} where
   -- COUNT BEFORE
@@ -38,18 +38,31 @@ module _ {A : Type 0} where
       (λ e. refl)
       (λ e. omega (arith, count_before_is t l))
 
-  -- BEFORE, by std's answer
+  -- the element that it stops at passes
+  pub count_before_passes : (t : A → Bool) (l : List A) (d : A) → count_before t l < length l → t (get_or l (count_before t l) d) ≡ true
+  count_before_passes t [] d h = absurd (omega arith)
+  count_before_passes t (x ∷ l) d h = by_test (λ c. t x ≡ c → t (get_or (x ∷ l) (count_before t (x ∷ l)) d) ≡ true) (t x)
+      (λ e f. rw (count_before_here t x l f) f)
+      (λ e f. rw (count_before_there t x l f) (count_before_passes t l d (omega (arith, count_before_there t x l f)))) refl
+
+  -- by std's answer
+  pub count_before_some : (t : A → Bool) (l : List A) (n : ℕ) → position t l ≡ Some n → n ≡ count_before t l
+  count_before_some t l n e = by_test (λ c. cond c (Some (position_or_len t l)) None ≡ Some n → n ≡ count_before t l) (ltb (position_or_len t l) (length l))
+      (λ _ h. let m : n ≡ position_or_len t l = cc in m ∙ count_before_is t l)
+      (λ _ h. absurd (cc)) e
+
+  pub count_before_none : (t : A → Bool) (l : List A) → position t l ≡ None → length l ≤ count_before t l
+  count_before_none t l e = by_test (λ c. ltb (position_or_len t l) (length l) ≡ c → cond c (Some (position_or_len t l)) None ≡ None → length l ≤ count_before t l) (ltb (position_or_len t l) (length l))
+      (λ _ _ h. absurd (cc))
+      (λ _ f h. omega (arith, count_before_is t l, ltb-false (position_or_len t l) (length l) f)) refl e
+
   pub before_some : (t : A → Bool) (l : List A) (n : ℕ) → position t l ≡ Some n → take n l ≡ before t l
   unfolding before
-  before_some t l n e = by_test (λ c. cond c (Some (position_or_len t l)) None ≡ Some n → take n l ≡ take (count_before t l) l) (ltb (position_or_len t l) (length l))
-      (λ _ h. let m : n ≡ position_or_len t l = cc in rw (m, count_before_is))
-      (λ _ h. absurd (cc)) e
+  before_some t l n e = rw (count_before_some t l n e)
 
   pub before_none : (t : A → Bool) (l : List A) → position t l ≡ None → l ≡ before t l
   unfolding before
-  before_none t l e = by_test (λ c. ltb (position_or_len t l) (length l) ≡ c → cond c (Some (position_or_len t l)) None ≡ None → l ≡ take (count_before t l) l) (ltb (position_or_len t l) (length l))
-      (λ _ _ h. absurd (cc))
-      (λ _ f h. sym (take_all (count_before t l) l (omega (arith, count_before_is t l, ltb-false (position_or_len t l) (length l) f)))) refl e
+  before_none t l e = sym (take_all (count_before t l) l (count_before_none t l e))
 
   -- PIECES
   pieces_first : (t : A → Bool) (x : A) (l : List A)
@@ -105,31 +118,6 @@ module _ {A : Type 0} where
   parts_are t (x ∷ l) = by_test (λ c. Parts (cond c ([] ∷ slice_split t l) (onto_first x (slice_split t l))) (choose c ([] ∷ pieces t l) (on_first x (pieces t l)))) (t x)
       (λ e. parts_gap _ _ (parts_are t l))
       (λ e. parts_first x _ _ (parts_are t l))
-
-  -- NON-EMPTY
-  abbrev pub has_elements : List A → Bool
-  has_elements p = not (eqb (length p) 0)
-
-  non_empty_is : (ps : List (List A)) → filter has_elements ps ≡ non_empty ps
-  unfolding non_empty
-  non_empty_is [] = refl
-  non_empty_is ([] ∷ ps) = non_empty_is ps
-  non_empty_is ((x ∷ p) ∷ ps) = rw (suc_not_zero (length p)) (ap (λ (l : List (List A)). (x ∷ p) ∷ l) (non_empty_is ps))
-    where
-      suc_not_zero : (n : ℕ) → eqb (suc n) 0 ≡ false
-      suc_not_zero n = ne_eqb (suc n) 0 (omega arith)
-
-  non_empty_end : (ps : List (List A)) → non_empty (ps ++ ([] ∷ [])) ≡ non_empty ps
-  unfolding non_empty
-  non_empty_end [] = refl
-  non_empty_end ([] ∷ ps) = non_empty_end ps
-  non_empty_end ((x ∷ p) ∷ ps) = ap (λ (l : List (List A)). (x ∷ p) ∷ l) (non_empty_end ps)
-
-  pub parts_non_empty : (t : A → Bool) (l : List A) → filter has_elements (slice_split t l) ≡ non_empty (pieces t l)
-  parts_non_empty t l = non_empty_is (slice_split t l) ∙ elim (parts_are t l) [
-    | inl e ↦ rw e
-    | inr e ↦ rw e (non_empty_end (pieces t l))
-  ]
 
 -- what stands behind a reference that std answers, and no bytes where it answers none
 pub now_or : (r : Option (Bor (List ℕ))) (d : Bor (List ℕ)) (f : List (List ℕ)) (n : ℕ) → d.now ≡ [] → option_map (λ x. x.now) r ≡ slice_get f n → (unwrap_or r d).now ≡ get_or f n []

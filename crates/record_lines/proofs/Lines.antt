@@ -58,9 +58,11 @@ pub record Numbers (f : List (List ℕ)) (n : ℕ) (ns : List ℕ) (k : ℕ) : T
 pub numbers_none : (f : List (List ℕ)) (n : ℕ) → Numbers f n (replicate n 0) 0
 numbers_none f n = record { size = length-replicate n 0; read = λ i h. absurd (omega arith); values = λ i h. absurd (omega arith) }
 
-pub numbers_next : (f : List (List ℕ)) (n : ℕ) (ns : List ℕ) (k v : ℕ) → Numbers f n ns k → k < n → number_at f (k + 1) ≡ Ok v → Numbers f n (set ns k v) (k + 1)
+-- the next is field a
+pub numbers_next : (f : List (List ℕ)) (n : ℕ) (ns : List ℕ) (k v a : ℕ) → Numbers f n ns k → k < n → a ≡ k + 1 → number_at f a ≡ Ok v → Numbers f n (set ns k v) (k + 1)
 unfolding value_at
-numbers_next f n ns k v p h e =
+numbers_next f n ns k v a p h i g =
+    let e : number_at f (k + 1) ≡ Ok v = rw (← i) g in
     let l : k < length ns = omega (arith, p.size) in
     record {
       size = length-set ns k v ∙ p.size;
@@ -89,11 +91,12 @@ unfolding numbers_of
 numbers_count n m f e h = rw e (sym (choose_no _ _ (ne_eqb _ _ (λ z. h (e ∙ z)))))
 
 module _ (n m k : ℕ) (f : List (List ℕ)) (ns : List ℕ) (c : m ≡ length f) (e : m ≡ 1 + n) (p : Numbers f n ns k) where
-  pub numbers_fault : k < n → unread (number_at f (k + 1)) ≡ true → Err (fault_at (k + 1) (number_at f (k + 1))) ≡ numbers_of n f
+  pub numbers_fault : (a : ℕ) → k < n → a ≡ k + 1 → unread (number_at f a) ≡ true → Err (fault_at a (number_at f a)) ≡ numbers_of n f
   unfolding numbers_of
-  numbers_fault h u =
+  numbers_fault a h j v =
+      let u : unread (number_at f (k + 1)) ≡ true = rw (← j) v in
       let i : first_unread f ≡ k + 1 = first_is f k (omega arith) p.read (λ _. u) in
-      sym (choose_yes _ _ (eq-eqb _ _ (sym c ∙ e)) ∙ rw i (choose_yes _ _ (lt-ltb (k + 1) (length f) (omega arith))))
+      rw j (sym (choose_yes _ _ (eq-eqb _ _ (sym c ∙ e)) ∙ rw i (choose_yes _ _ (lt-ltb (k + 1) (length f) (omega arith)))))
 
   pub numbers_all : n ≤ k → Ok ns ≡ numbers_of n f
   unfolding numbers_of

@@ -64,12 +64,11 @@ fn number_at(line: &[u8], k: usize) -> Result<u32, Fault>
     })
 }
 
-// The numbers after the word, where N belong there.
-fn read_numbers<const N: usize>(line: &[u8]) -> Result<[u32; N], Fault>
-    requires { (N ≤ 4) × (1 ≤ length (fields line.now)) }
+// The numbers after the word of a line of `count` fields, where N belong there.
+fn read_numbers<const N: usize>(line: &[u8], count: usize) -> Result<[u32; N], Fault>
+    requires { (N ≤ 4) × (1 ≤ count) × (count ≡ length (fields line.now)) }
     ensures { result ≡ numbers_of N (fields line.now) }
 {
-    let count = record_fields::field_count(line);
     if count != 1 + N {
         return Err(Fault::WrongCount(N, count - 1));
     }
@@ -85,13 +84,14 @@ fn read_numbers<const N: usize>(line: &[u8]) -> Result<[u32; N], Fault>
 pub fn read_line(line: &[u8]) -> Result<Option<Record>, Fault>
     ensures { result ≡ line_of line.now }
 {
-    if record_fields::field_count(line) == 0 {
+    let count = record_fields::field_count(line);
+    if count == 0 {
         return Ok(None);
     }
     let record = match kind_of(record_fields::field(line, 0)) {
-        Some(Kind::Process) => Record::Process(read_numbers(line)?),
-        Some(Kind::Section) => Record::Section(read_numbers(line)?),
-        Some(Kind::Region) => Record::Region(read_numbers(line)?),
+        Some(Kind::Process) => Record::Process(read_numbers(line, count)?),
+        Some(Kind::Section) => Record::Section(read_numbers(line, count)?),
+        Some(Kind::Region) => Record::Region(read_numbers(line, count)?),
         None => return Err(Fault::UnknownWord),
     };
     Ok(Some(record))

@@ -1,17 +1,30 @@
-use Rattle.std.proofs.Common.{rules, refl, ◌≡◌, ◌∙◌, slice_get, tests}
-use Rattle.std.specs.Option.{option_map}
-use Rattle.std.proofs.lemmas.Iterator.Consumers.{YieldsList-from_filter, YieldsList-at, nth_from_yields_List}
-use Rattle.std.proofs.lemmas.Iterator.Splits.{YieldsList-from_slice_split}
+use Rattle.std.proofs.Common.{◌≡◌, ◌∙◌, sym, drop, length-drop, rules, tests, arith}
+use Rattle.std.proofs.lemmas.Iterator.{YieldsList-from_slice}
+use Rattle.std.proofs.lemmas.Iterator.Search.{position_from_yields_List}
+use Rattle.std.proofs.lemmas.List.{take_all}
 use Rattle.record_fields.specs.Fields.{separator, hash, fields}
-use Rattle.record_fields.proofs.Pieces.{has_elements, parts_non_empty, now_or}
+use Rattle.record_fields.proofs.Fields.{field_first, field_next, field_none, field_here}
+use Rattle.record_fields.proofs.Pieces.{count_before_some, count_before_none}
 use Rattle.record_fields.proofs.field.Goals as goal
 
+pub loop-init : goal.loop-init
+unfolding hash
+loop-init c = field_first _ _ (rw c.before-2.ensures at c.past_gap-rest.ensures)
+
+pub returns-in-None : goal.returns-in-None
+unfolding fields
+returns-in-None c =
+    let p = position_from_yields_List separator _ _ c.position.result c.position.ensures.ran (YieldsList-from_slice c.loop.rest.now (cc)) (λ x b q k. search (rules, tests)) in
+    field_none _ _ _ _ c.loop.invariant (count_before_none separator _ (sym p ∙ c.in-None.is)) c.loop-test.true
+
+pub loop-preserved : goal.loop-preserved
+loop-preserved c =
+    let p = position_from_yields_List separator _ _ c.position.result c.position.ensures.ran (YieldsList-from_slice c.loop.rest.now (cc)) (λ x b q k. search (rules, tests)) in
+    let d = take_all _ (drop c.in-Some.end c.loop.rest.now) (omega (arith, length-drop c.in-Some.end c.loop.rest.now)) in
+    field_next _ _ _ _ _ _ c.loop.invariant (count_before_some separator _ _ (sym p ∙ c.in-Some.is)) d c.past_gap-rest-in-Some.ensures
+
 pub returns : goal.returns
-unfolding fields hash
+unfolding fields
 returns c =
-    let all : option_map (λ x. x.now) c.nth.result ≡ slice_get (fields c.args.line.now) c.args.n = nth_from_yields_List c.nth.result _ c.args.n c.nth.ensures.ran
-    (YieldsList-from_filter _ has_elements
-    (YieldsList-at c.filter.ensures.source (YieldsList-from_slice_split _ separator _ c.split.ensures.rest c.split.ensures.done c.split.ensures.closure (λ x b q k. search (rules, tests))))
-    c.filter.ensures.closure (λ x b q k. search (rules, tests)))
-    ∙ rw (parts_non_empty, c.before-2.ensures) in
-    rw c.unwrap_or.ensures (now_or _ _ (fields c.args.line.now) c.args.n refl all)
+    let e : c.loop.counter ≡ c.args.n = omega arith in
+    c.word.ensures ∙ rw (field_here _ _ _ c.loop.invariant, e)
