@@ -47,7 +47,7 @@ module _ (b flash : List ℕ) (xip : ℕ → Bool) {r₀ : List ℕ} {n₀ : ℕ
       → Wrote (section_content b flash) (section_pages b xip q j) r₀ n₀ r n
   unfolding section_pages section_record pages_taken
   section_end_is q j m taken s is e t w =
-      rw (← e, ← is.page_count_is, ← t) (w.uses (section_content b flash) (page_use q j) (λ i o _. page_of_record 0 flash i o is ∙ rw e (sym (section_content_lem b flash 0 q j i o))))
+      rw (← e, ← is.page_count_is, ← t) (w.uses (section_content b flash) (page_use q j) (λ i o _. page_of_record b m s 0 flash i o is.no_copy_is is.address_is is.size_is is.flash_offset ∙ rw e (sym (section_content_lem b flash 0 q j i o))))
 
   pub process_end : (q j : ℕ) → Wrote (section_content b flash) (gather j (section_pages b xip q)) r₀ n₀ r n → j ≡ sections_of b q
       → Wrote (section_content b flash) (section_uses b xip q) r₀ n₀ r n
