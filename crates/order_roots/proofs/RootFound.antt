@@ -1,6 +1,6 @@
 -- The root of a process, case by case.
 use Rattle.std.proofs.lemmas.Bool.{lt-leb}
-use Rattle.std.proofs.Common.{◌≡◌, refl, sym, ap, ◌∙◌, ◌≢◌, List, Bool, true, false, ◌&&◌, arith, eqb, eq-eqb, ne_eqb, le-leb, ℕ, ◌+◌, ◌-◌, ◌%◌, ◌≤◌, ◌<◌}
+use Rattle.std.proofs.Common.{◌≡◌, refl, sym, ap, ◌∙◌, ◌≢◌, List, Bool, true, false, ◌&&◌, arith, eq-eqb, ne_eqb, le-leb, ℕ, ◌+◌, ◌-◌, ◌%◌, ◌≤◌, ◌<◌}
 use Rattle.notation.specs.Choice.{choose}
 use Rattle.rules.specs.Answers.{Answer}
 use Rattle.types.specs.declared.Area.{Area}
@@ -26,7 +26,7 @@ use Rattle.order_roots.specs.Roots.{is_process, root_found}
 pub root_refused : (x : Image) (ram : Area) (q : ℕ) (a : Answer) → a ≡ answer_on x ram → a.number ≢ 0 → None ≡ root_found x ram q
 unfolding root_found
 root_refused x ram q a e n =
-    rw (ne_eqb (verdict x ram).number 0 (λ z. n (ap (λ (a : Answer). a.number) e ∙ answer_number x ram ∙ z))) (sym (choose_no _ _ refl))
+    sym (choose_no _ _ (ap (λ c. c && is_process x.block q) (ne_eqb _ 0 (λ z. n (ap (λ (a : Answer). a.number) e ∙ answer_number x ram ∙ z)))))
 
 not_below : (b : List ℕ) (q : ℕ) → q ≡ 0 → is_process b q ≡ false
 unfolding is_process
@@ -42,7 +42,7 @@ never false x = choose_no _ _ refl
 
 no_process : (x : Image) (ram : Area) (q : ℕ) → is_process x.block q ≡ false → None ≡ root_found x ram q
 unfolding root_found
-no_process x ram q e = rw e (sym (never (eqb (verdict x ram).number 0) _))
+no_process x ram q e = rw e (sym (never _ _))
 
 pub root_below : (x : Image) (ram : Area) (q : ℕ) → q ≡ 0 → None ≡ root_found x ram q
 root_below x ram q e = no_process x ram q (not_below x.block q e)

@@ -45,17 +45,17 @@ module _ (m : Memory) (P : ℕ) where
   inside h l = rw (le-leb m.start (4096 * P) h, le-leb (4096 * P + 4096) (m.start + length m.bytes) l)
 
   -- the bytes from `from` on, if there are as many
-  pub part_found : (r : Option (Bor (List ℕ))) (from : ℕ) → m.start ≤ 4096 * P → from ≡ 4096 * P - m.start
-      → PartBy (λ (x : Bor (List ℕ)). x.now) m.bytes from (from + 4096) r
+  pub part_found : (r : Option (Bor (List ℕ))) (from to : ℕ) → m.start ≤ 4096 * P → from ≡ 4096 * P - m.start → to ≡ from + 4096
+      → PartBy (λ (x : Bor (List ℕ)). x.now) m.bytes from to r
       → (is_some r ≡ lies_in (page_area P) (memory_area m)) × IfSome r (λ part. part.now ≡ page_in m P)
   unfolding page_in choose
-  part_found None from h e p = elim p.0 [
+  part_found None from to h e t p = elim p.0 [
     | inl l ↦ absurd (omega arith)
     | inr l ↦ (sym (ends_above h (omega arith)), tt)
   ]
-  part_found (Some part) from h e p =
+  part_found (Some part) from to h e t p =
       let i : lies_in (page_area P) (memory_area m) ≡ true = inside h (omega arith) in
-      let n : from + 4096 - from ≡ 4096 = omega arith in
+      let n : to - from ≡ 4096 = omega arith in
       (sym i, rw i (p.0.2 ∙ rw (n, take_drop_tab 4096 from m.bytes (omega arith), e) refl))
 
   -- a table's bytes have its entries

@@ -16,7 +16,8 @@ pub fn page_in<'a>(m: Memory<'a>, page: PhysPage) -> Option<&'a [u8]>
 {
     let size = PAGE_BYTES as usize;
     let from = (size * (page.0 as usize)).checked_sub(m.start as usize)?;
-    m.bytes.get(from..from + size)
+    let end = from + size;
+    m.bytes.get(from..end)
 }
 
 // Entry i of a table; absent where the table is not wholly inside RAM.

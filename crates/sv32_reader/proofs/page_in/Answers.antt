@@ -8,5 +8,5 @@ returns-in_err-from-clause-found c = rw c.from_residual.ensures (sym (starts_bel
 pub returns : goal.returns
 returns c =
     let start = c.in_ok-from.ensures in
-    let p = part_found _ _ c.get.result _ start.0 start.1 c.get.ensures.lookup in
+    let p = part_found _ _ c.get.result _ _ start.0 start.1 (omega arith) c.get.ensures.lookup in
     record { found = p.0; bytes = p.1 }
